@@ -1,0 +1,18 @@
+-- `bits::bit8` answers the bit of its number: a number that is shifted down by k has bit k as its lowest.
+use Prim.Native.Nat.{_%_}
+use borrow.Author.Needs.{needs}
+use Rattle.bits.proofs.BitLaws.{shifted-bit}
+use Rattle.bits.proofs.bit8.Statement.{statement}
+use Rattle.bits.proofs.bit8.Tie as tie
+
+cast-result : tie.Need-cast-result
+cast-result c = search needs
+
+shr-result : tie.Need-shr-result
+shr-result c = search needs
+
+returns : tie.Need-returns
+returns c = shifted-bit (c .args .n) (c .args .k % 8)
+
+pub bit8-spec : {M : Type 1} → statement M
+bit8-spec = tie.close (tie.spec cast-result shr-result returns)

@@ -1,0 +1,29 @@
+-- "Some", "every", "one after another" and "the number of", over the numbers below a bound.
+use Prim.Native.Nat.{ℕ, zero, suc, _+_}
+use mathlib.Core.Bool.{Bool, true, false, cond, _&&_, _||_}
+
+-- p holds of some number below n
+unfoldable pub anyBelow : ℕ → (ℕ → Bool) → Bool
+anyBelow zero p = false
+anyBelow (suc n) p = p n || anyBelow n p
+
+-- p holds of every number below n
+unfoldable pub allBelow : ℕ → (ℕ → Bool) → Bool
+allBelow zero p = true
+allBelow (suc n) p = p n && allBelow n p
+
+-- f at 0, at 1 and so on, up to the last number below n, each on what the one before gave; a at the start
+unfoldable pub foldBelow : {A : Type 0} → ℕ → (ℕ → A → A) → A → A
+foldBelow zero f a = a
+foldBelow (suc n) f a = f n (foldBelow n f a)
+
+-- how many numbers below n p holds of
+unfoldable pub countBelow : ℕ → (ℕ → Bool) → ℕ
+countBelow zero p = 0
+countBelow (suc n) p = cond (p n) 1 0 + countBelow n p
+
+-- if a, then b
+infixr 25 _⇒_
+abbrev pub _⇒_ : Bool → Bool → Bool
+true ⇒ b = b
+false ⇒ b = true

@@ -1,0 +1,54 @@
+// Bits of numbers, bit 0 lowest. The number of a bit is taken modulo the width, as a shift takes it, so each function is total.
+ghost use mathlib.Core.Path.{_≡_};
+ghost use Prim.Native.Nat.{_%_};
+ghost use Rattle.bits.specs.Bits.{bit, withBit};
+ghost use Rattle.bits.specs.Bounded.{countBelow};
+
+// Whether bit k of n is set.
+pub fn bit8(n: u8, k: usize) -> bool
+    ensures { λ r. ⌜ r ≡ bit n (k % 8) ⌝ }
+{
+    (n >> (k % 8)) & 1 == 1
+}
+
+// n with bit k set.
+pub fn with_bit8(n: u8, k: usize) -> u8
+    ensures { λ r. ⌜ r ≡ withBit n (k % 8) ⌝ }
+{
+    n | (1 << (k % 8))
+}
+
+// Whether bit k of n is set.
+pub fn bit16(n: u16, k: usize) -> bool
+    ensures { λ r. ⌜ r ≡ bit n (k % 16) ⌝ }
+{
+    (n >> (k % 16)) & 1 == 1
+}
+
+// n with bit k set.
+pub fn with_bit16(n: u16, k: usize) -> u16
+    ensures { λ r. ⌜ r ≡ withBit n (k % 16) ⌝ }
+{
+    n | (1 << (k % 16))
+}
+
+// Whether bit k of n is set.
+pub fn bit64(n: u64, k: usize) -> bool
+    ensures { λ r. ⌜ r ≡ bit n (k % 64) ⌝ }
+{
+    (n >> (k % 64)) & 1 == 1
+}
+
+// n with bit k set.
+pub fn with_bit64(n: u64, k: usize) -> u64
+    ensures { λ r. ⌜ r ≡ withBit n (k % 64) ⌝ }
+{
+    n | (1 << (k % 64))
+}
+
+// How many bits of n are set.
+pub fn count64(n: u64) -> u32
+    ensures { λ r. ⌜ r ≡ countBelow 64 (bit n) ⌝ }
+{
+    u64::count_ones(n)
+}

@@ -1,0 +1,57 @@
+// Levels (document 01, "Levels"): a rank of 4 bits above a set of 12 compartments, in the 16 bits of a number.
+ghost use mathlib.Core.Path.{_≡_};
+ghost use Prim.Native.Nat.{_%_};
+ghost use Rattle.level.specs.Levels.{rankOf, compartmentsOf, levelOf, atMost, meetOf};
+
+pub struct Level(pub u16);
+
+impl Level {
+    // Rank 0 and no compartment: at most every level.
+    pub const LOWEST: Level = Level(0);
+    // Rank 15 and every compartment: every level is at most this one.
+    pub const HIGHEST: Level = Level(65535);
+
+    // The level of a rank, taken modulo 16, and a set of compartments, taken modulo 4096.
+    pub fn new(rank: u16, compartments: u16) -> Level
+        ensures { λ r. ⌜ r .0 ≡ levelOf 12 (rank % 16) (compartments % 4096) ⌝ }
+    {
+        Level(((rank & 0xf) << 12) | (compartments & 0xfff))
+    }
+
+    // The high 4 bits.
+    pub fn rank(self) -> u16
+        ensures { λ r. ⌜ r ≡ rankOf 12 (self .0) ⌝ }
+    {
+        self.0 >> 12
+    }
+
+    // The low 12 bits, a bit for each compartment.
+    pub fn compartments(self) -> u16
+        ensures { λ r. ⌜ r ≡ compartmentsOf 12 (self .0) ⌝ }
+    {
+        self.0 & 0xfff
+    }
+
+    // True exactly where self ≤ other: the rank is at most the other's, and every compartment is one of the other's.
+    pub fn compare(self, other: Level) -> bool
+        ensures { λ r. ⌜ r ≡ atMost 12 (self .0) (other .0) ⌝ }
+    {
+        let own = self.compartments();
+        let others = other.compartments();
+        self.rank() <= other.rank() && own & others == own
+    }
+
+    // The highest level that is at most both: the smaller rank and the common compartments.
+    pub fn meet(self, other: Level) -> Level
+        ensures { λ r. ⌜ r .0 ≡ meetOf 12 (self .0) (other .0) ⌝ }
+    {
+        let own = self.rank();
+        let others = other.rank();
+        let common = self.compartments() & other.compartments();
+        if own <= others {
+            Level::new(own, common)
+        } else {
+            Level::new(others, common)
+        }
+    }
+}

@@ -1,0 +1,5 @@
+pub mod Marked
+pub mod Requests
+pub mod Accesses
+pub mod Published
+pub mod Circles

@@ -1,0 +1,95 @@
+-- The marked cases P1 to P10 hold of the definitions, by computation.
+use mathlib.Core.Path.{_≡_, refl}
+use Rattle.bits.specs.Bits.{bit, withBit}
+use Rattle.bits.specs.Bounded.{anyBelow, allBelow, foldBelow}
+use Rattle.level.specs.Levels.{rankOf, compartmentsOf, levelOf, atMost, meetOf}
+use Rattle.policy.specs.Checks.{ladder}
+use Rattle.policy.specs.Tables.{
+  emptyTables,
+  enables,
+  firmDeclared,
+  personDeclared,
+  folderDeclared,
+  roleDeclared,
+  classOf,
+  inForce,
+}
+use Rattle.policy.specs.Rulebook.{
+  bodyLength,
+  littleEndian,
+  recordOf,
+  inRange,
+  declaredBefore,
+  firmStands,
+  entersCreate,
+  recordChecks,
+  declare,
+  reaches,
+  hasCircle,
+  isLoose,
+  hasLoose,
+  endChecks,
+  refusedBook,
+  ended,
+  loadFrom,
+  loadBook,
+}
+use Rattle.policy.specs.Request.{subject, two, three, requestOf, recordLength, same, member}
+use Rattle.policy.specs.Rules.{
+  declared,
+  right,
+  did,
+  accessed,
+  opened,
+  otherClass,
+  wallAccess,
+  wall,
+  loweredBy,
+  currentLevel,
+  someRequest,
+  used,
+  roleCovers,
+  roles,
+  done,
+  leadsTo,
+  pipelineStep,
+  pipeline,
+  lowWater,
+}
+use Rattle.policy.specs.Calls.{
+  restOf,
+  requestChecks,
+  judgeOver,
+  addedIf,
+  judgeList,
+  afterRecord,
+  callsFrom,
+  callsOf,
+  grantedIn,
+  refusedIn,
+}
+use Rattle.policy.specs.Marked.{wallAnswer, lowWaterAnswer, withTotals, MarkedCases}
+
+pub marked-cases : MarkedCases
+unfolding
+    bit withBit anyBelow allBelow foldBelow rankOf compartmentsOf levelOf atMost meetOf ladder emptyTables enables
+    firmDeclared personDeclared folderDeclared roleDeclared classOf inForce bodyLength littleEndian recordOf inRange
+    declaredBefore firmStands entersCreate recordChecks declare reaches hasCircle isLoose hasLoose endChecks refusedBook ended
+    loadFrom loadBook subject two three requestOf recordLength same member declared right did accessed opened otherClass
+    wallAccess wall loweredBy currentLevel someRequest used roleCovers roles done leadsTo pipelineStep pipeline lowWater restOf
+    requestChecks judgeOver addedIf judgeList afterRecord callsFrom callsOf grantedIn refusedIn wallAnswer lowWaterAnswer withTotals
+marked-cases =
+    record {
+      P1 = refl;
+      P2 = refl;
+      P3 = refl;
+      P4 = refl;
+      P5 = refl;
+      P6-loads = refl;
+      P6-refused = refl;
+      P7 = refl;
+      P8 = refl;
+      P9-one = refl;
+      P9-other = refl;
+      P10 = refl;
+    }

@@ -1,0 +1,308 @@
+-- Each rule grants exactly where its published form holds. A bounded search for a folder, a role or a step finds one exactly where
+-- there is one, since what the set holds is declared and so within the bounds; and a level is at most a meet exactly where it is at
+-- most each part.
+use Prim.Native.Nat.{ℕ, zero, suc, _<_}
+use native.Mathlib.Nat.{eq-or-lt-of-le, le-of-suc-le-suc, not-suc-le-zero, lt-suc-self}
+use native.Mathlib.Omega.{arith}
+use mathlib.Core.Path.{_≡_, refl, sym, ap, _∙_, subst}
+use mathlib.Core.Logic.{_⊎_, inl, inr, ⊎-elim, _↔_, _≢_}
+use mathlib.Core.Bool.{Bool, true, false, cond, not, _&&_, _||_, false≢true}
+use lib.Dec.{eqb, ltb}
+use borrow.Author.Tests.{eqb-true, eqb-false, eq-eqb, ne-eqb, not-true, ltb-true}
+use Rattle.bits.specs.Bits.{bit}
+use Rattle.bits.specs.Bounded.{anyBelow, allBelow, foldBelow, _⇒_}
+use Rattle.bits.proofs.Booleans.{
+  and-left,
+  and-right,
+  and-both,
+  or-cases,
+  or-left,
+  or-right,
+  implies-elim,
+  implies-intro,
+  decide,
+  false-elim,
+  false-intro,
+}
+use Rattle.bits.proofs.Bounds.{any-some, some-any, all-at, all-of}
+use Rattle.level.specs.Levels.{atMost, meetOf}
+use Rattle.level.proofs.LevelLaws.{split}
+use Rattle.policy.specs.declared.Tables.{Tables}
+use Rattle.policy.specs.Tables.{personAt, folderAt, roleAt, enables, roleDeclared, folderDeclared, classOf}
+use Rattle.policy.specs.Request.{Request, read, write, start, step, subject}
+use Rattle.policy.specs.Rules.{
+  declared,
+  right,
+  someRequest,
+  did,
+  accessed,
+  opened,
+  otherClass,
+  wallAccess,
+  wall,
+  loweredBy,
+  currentLevel,
+  lowWater,
+  roleCovers,
+  roles,
+  done,
+  leadsTo,
+  pipelineStep,
+  pipeline,
+}
+use Rattle.policy.specs.Published.{
+  Access,
+  InHistory,
+  Accessed,
+  WallAccess,
+  Wall,
+  LowWater,
+  Roles,
+  Applied,
+  Pipeline,
+}
+use Rattle.policy.proofs.Requests.{folder-below, role-below, declared-place}
+use Rattle.policy.proofs.Accesses.{
+  access-declared,
+  some-request,
+  request-some,
+  did-in,
+  in-did,
+  accessed-some,
+  some-accessed,
+  accessed-below,
+  done-applied,
+  applied-done,
+  applied-below,
+}
+
+module _ (t : Tables) (H : Request → Bool) where
+  -- ---- the wall
+
+  opened-some : (s f : ℕ) → opened t H s f ≡ true → (o : ℕ) × Accessed t H s o × (f ≡ folderAt t o .firm)
+  unfolding opened
+  opened-some s f e =
+      let (o, l, w) = any-some 128 (λ o. accessed t H s o && eqb (folderAt t o .firm) f) e in
+      (o, accessed-some t H s o (and-left (accessed t H s o) _ w), sym (eqb-true _ _ (and-right (accessed t H s o) _ w)))
+
+  some-opened : (s f o : ℕ) → Accessed t H s o → f ≡ folderAt t o .firm → opened t H s f ≡ true
+  unfolding opened
+  some-opened s f o a e =
+      some-any 128 (λ o. accessed t H s o && eqb (folderAt t o .firm) f) o (accessed-below t H s o a)
+      (and-both _ _ (some-accessed t H s o a) (eq-eqb _ _ (sym e)))
+
+  other-all : (s c : ℕ) → otherClass t H s c ≡ true → (o : ℕ) → Accessed t H s o → c ≢ classOf t o
+  unfolding otherClass
+  other-all s c e o a q =
+      let d = all-at 128 (λ o. accessed t H s o ⇒ not (eqb (classOf t o) c)) e o (accessed-below t H s o a) in
+      eqb-false (classOf t o) c (not-true _ (implies-elim (accessed t H s o) _ d (some-accessed t H s o a))) (sym q)
+
+  all-other : (s c : ℕ) → ((o : ℕ) → Accessed t H s o → c ≢ classOf t o) → otherClass t H s c ≡ true
+  unfolding otherClass
+  all-other s c h =
+      all-of 128 (λ o. accessed t H s o ⇒ not (eqb (classOf t o) c))
+      (λ o l. implies-intro (accessed t H s o) _ (λ a. ap not (ne-eqb (classOf t o) c (λ q. h o (accessed-some t H s o a) (sym q)))))
+
+  wall-access : (s o : ℕ) → (wallAccess t H s o ≡ true) ↔ WallAccess t H s o
+  unfolding wallAccess
+  wall-access s o = (
+    λ e.
+        ⊎-elim (λ l. inl (opened-some s (folderAt t o .firm) l)) (λ l. inr (other-all s (classOf t o) l))
+        (or-cases (opened t H s (folderAt t o .firm)) _ e),
+    λ w.
+        ⊎-elim (λ l. or-left _ _ (some-opened s (folderAt t o .firm) (l .0) (l .1) (l .2)))
+        (λ l. or-right (opened t H s (folderAt t o .firm)) _ (all-other s (classOf t o) l)) w,
+  )
+
+  -- the wall, at the person and folder of an access
+  wall-at : (r : Request) (s o : ℕ) → Access r s o → wall t H r ≡ wallAccess t H s o
+  unfolding wall
+  wall-at (read s o) s′ o′ a = rw (a .0, a .1)
+  wall-at (write s o) s′ o′ a = rw (a .0, a .1)
+  wall-at (start s u) s′ o′ a = absurd a
+  wall-at (step s p o) s′ o′ a = rw (a .0, a .1)
+
+  at-wall : (r : Request) → ((s o : ℕ) → Access r s o → wallAccess t H s o ≡ true) → wall t H r ≡ true
+  unfolding wall
+  at-wall (read s o) h = h s o (refl, refl)
+  at-wall (write s o) h = h s o (refl, refl)
+  at-wall (start s u) h = refl
+  at-wall (step s p o) h = h s o (refl, refl)
+
+  pub wall-published : (r : Request) → (wall t H r ≡ true) ↔ Wall t H r
+  wall-published r =
+      (λ e s o a. wall-access s o .0 (sym (wall-at r s o a) ∙ e), λ w. at-wall r (λ s o a. wall-access s o .1 (w s o a)))
+
+  -- ---- low-water
+
+  -- the current level is the meet: what is at most it is what is at most the first level and the level of every folder read
+  level-below : (s c n : ℕ) → atMost 12 c (foldBelow n (loweredBy t H s) (personAt t s .level .0)) ≡ true
+      → (atMost 12 c (personAt t s .level .0) ≡ true)
+      × ((o : ℕ) → o < n → did t H (read s o) ≡ true → atMost 12 c (folderAt t o .level .0) ≡ true)
+  unfolding foldBelow loweredBy
+  level-below s c zero e = (e, λ o l. absurd (not-suc-le-zero l))
+  level-below s c (suc n) e = go (did t H (read s n)) refl (level-below s c n) e
+    where
+      below : ℕ
+      below = foldBelow n (loweredBy t H s) (personAt t s .level .0)
+
+      Below : ℕ → Type 0
+      Below m =
+          (atMost 12 c (personAt t s .level .0) ≡ true)
+          × ((o : ℕ) → o < m → did t H (read s o) ≡ true → atMost 12 c (folderAt t o .level .0) ≡ true)
+
+      go : (b : Bool) → did t H (read s n) ≡ b → (atMost 12 c below ≡ true → Below n)
+          → atMost 12 c (cond b (meetOf 12 below (folderAt t n .level .0)) below) ≡ true → Below (suc n)
+      go true d ih e =
+          let both : atMost 12 c below && atMost 12 c (folderAt t n .level .0) ≡ true =
+          sym (split 12 below (folderAt t n .level .0) c) ∙ e in
+          let first = ih (and-left (atMost 12 c below) _ both) in (
+            first .0,
+            λ o l d′.
+                ⊎-elim (λ (q : o ≡ n). rw q (and-right (atMost 12 c below) _ both)) (λ k. first .1 o k d′)
+                (eq-or-lt-of-le (le-of-suc-le-suc l)),
+          )
+      go false d ih e =
+          let first = ih e in (
+            first .0,
+            λ o l d′.
+                ⊎-elim (λ (q : o ≡ n). absurd (false-elim (did t H (read s n)) d (rw q at d′))) (λ k. first .1 o k d′)
+                (eq-or-lt-of-le (le-of-suc-le-suc l)),
+          )
+
+  below-level : (s c n : ℕ) → atMost 12 c (personAt t s .level .0) ≡ true
+      → ((o : ℕ) → o < n → did t H (read s o) ≡ true → atMost 12 c (folderAt t o .level .0) ≡ true)
+      → atMost 12 c (foldBelow n (loweredBy t H s) (personAt t s .level .0)) ≡ true
+  unfolding foldBelow loweredBy
+  below-level s c zero f h = f
+  below-level s c (suc n) f h =
+      go (did t H (read s n)) refl (below-level s c n f (λ o l. h o (omega arith)))
+    where
+      below : ℕ
+      below = foldBelow n (loweredBy t H s) (personAt t s .level .0)
+
+      go : (b : Bool) → did t H (read s n) ≡ b → atMost 12 c below ≡ true
+          → atMost 12 c (cond b (meetOf 12 below (folderAt t n .level .0)) below) ≡ true
+      go true d e = split 12 below (folderAt t n .level .0) c ∙ and-both _ _ e (h n (lt-suc-self n) d)
+      go false d e = e
+
+  pub level-is-meet : (s c : ℕ)
+      → (atMost 12 c (currentLevel t H s) ≡ true)
+      ↔ ((atMost 12 c (personAt t s .level .0) ≡ true)
+      × ((o : ℕ) → InHistory t H (read s o) → atMost 12 c (folderAt t o .level .0) ≡ true))
+  unfolding currentLevel
+  level-is-meet s c = (
+    λ e.
+        let b = level-below s c 128 e in (
+          b .0,
+          λ o h.
+              b .1 o (folder-below t o (access-declared t (read s o) s o (h .0) (refl, refl))) (in-did t H (read s o) h),
+        ),
+    λ w. below-level s c 128 (w .0) (λ o l d. w .1 o (did-in t H (read s o) d)),
+  )
+
+  pub low-water-published : (r : Request) → (lowWater t (currentLevel t H) r ≡ true) ↔ LowWater t H r
+  unfolding lowWater
+  low-water-published (read s o) = (λ e. tt, λ w. refl)
+  low-water-published (write s o) = level-is-meet s (folderAt t o .level .0)
+  low-water-published (start s u) = (λ e. e, λ w. w)
+  low-water-published (step s p o) = (λ e. tt, λ w. refl)
+
+  -- ---- roles
+
+  outside : ℕ → Request → Bool
+  outside k q = did t H q && not (bit (roleAt t k .rights) (right t q))
+
+  covers-all : (r : Request) (k : ℕ) → roleCovers t H r k ≡ true → (q : Request)
+      → (q ≡ r) ⊎ (InHistory t H q × (subject q ≡ subject r)) → bit (roleAt t k .rights) (right t q) ≡ true
+  unfolding roleCovers outside
+  covers-all r k e q (inl i) = rw i (and-left (bit (roleAt t k .rights) (right t r)) _ e)
+  covers-all r k e q (inr w) =
+      let none = not-true _ (and-right (bit (roleAt t k .rights) (right t r)) _ e) in
+      ⊎-elim (λ b. b)
+      (λ b.
+      let found = request-some (outside k) q (declared-place t q (w .0 .0)) (and-both _ _ (in-did t H q (w .0)) (ap not b)) in
+      absurd (false-elim (someRequest (outside k) (subject r)) none (rw (w .1) at found)))
+      (decide (bit (roleAt t k .rights) (right t q)))
+
+  all-covers : (r : Request) (k : ℕ)
+      → ((q : Request) → (q ≡ r) ⊎ (InHistory t H q × (subject q ≡ subject r)) → bit (roleAt t k .rights) (right t q) ≡ true)
+      → roleCovers t H r k ≡ true
+  unfolding roleCovers outside
+  all-covers r k h =
+      and-both _ _ (h r (inl refl))
+      (ap not
+      (false-intro (someRequest (outside k) (subject r)) (λ e.
+      let (q, s, w) = some-request (outside k) (subject r) e in
+      let i = did-in t H q (and-left (did t H q) _ w) in
+      false-elim (bit (roleAt t k .rights) (right t q)) (not-true _ (and-right (did t H q) _ w)) (h q (inr (i, s))))))
+
+  pub roles-published : (r : Request) → (roles t H r ≡ true) ↔ Roles t H r
+  unfolding roles
+  roles-published r = (
+    λ e.
+        let (k, l, w) = any-some 32 (λ k. roleDeclared t k && roleCovers t H r k) e in
+        (k, and-left (roleDeclared t k) _ w, covers-all r k (and-right (roleDeclared t k) _ w)),
+    λ w.
+        some-any 32 (λ k. roleDeclared t k && roleCovers t H r k) (w .0) (role-below t (w .0) (w .1))
+        (and-both _ _ (w .1) (all-covers r (w .0) (w .2))),
+  )
+
+  -- ---- the pipeline
+
+  enabledDone : ℕ → ℕ → ℕ → Bool
+  enabledDone o p d = done t H o d && enables t p d
+
+  leads-some : (o q : ℕ) → anyBelow 16 (leadsTo t H o q) ≡ true
+      → (p : ℕ) × Applied t H p o × (enables t p q ≡ true) × ((d : ℕ) → Applied t H d o → enables t p d ≡ true → ⊥)
+  unfolding leadsTo enabledDone
+  leads-some o q e =
+      let (p, l, w) = any-some 16 (leadsTo t H o q) e in
+      let first = and-left (done t H o p && enables t p q) _ w in
+      let none = not-true _ (and-right (done t H o p && enables t p q) _ w) in (
+        p,
+        done-applied t H o p (and-left (done t H o p) _ first),
+        and-right (done t H o p) _ first,
+        λ d a b.
+            false-elim (anyBelow 16 (enabledDone o p)) none
+            (some-any 16 (enabledDone o p) d (applied-below t H o d a) (and-both _ _ (applied-done t H o d a) b)),
+      )
+
+  some-leads : (o q p : ℕ) → Applied t H p o → enables t p q ≡ true
+      → ((d : ℕ) → Applied t H d o → enables t p d ≡ true → ⊥) → anyBelow 16 (leadsTo t H o q) ≡ true
+  unfolding leadsTo enabledDone
+  some-leads o q p a b none =
+      some-any 16 (leadsTo t H o q) p (applied-below t H o p a)
+      (and-both (done t H o p && enables t p q) _ (and-both _ _ (applied-done t H o p a) b)
+      (ap not
+      (false-intro (anyBelow 16 (enabledDone o p)) (λ e.
+      let (d, l, w) = any-some 16 (enabledDone o p) e in
+      none d (done-applied t H o d (and-left (done t H o d) _ w)) (and-right (done t H o d) _ w)))))
+
+  pub pipeline-published : (r : Request) → (pipeline t H r ≡ true) ↔ Pipeline t H r
+  unfolding pipeline pipelineStep
+  pipeline-published (read s o) = (λ e. tt, λ w. refl)
+  pipeline-published (write s o) = (λ e. tt, λ w. refl)
+  pipeline-published (start s u) = (λ e. tt, λ w. refl)
+  pipeline-published (step s zero o) = (
+    λ e.
+        inl (
+          refl,
+          λ p a.
+              false-elim (anyBelow 16 (done t H o)) (not-true _ e)
+              (some-any 16 (done t H o) p (applied-below t H o p a) (applied-done t H o p a)),
+        ),
+    λ w.
+        ⊎-elim
+        (λ c.
+        ap not
+        (false-intro (anyBelow 16 (done t H o)) (λ e.
+        let (p, l, d) = any-some 16 (done t H o) e in c .1 p (done-applied t H o p d))))
+        (λ c. absurd (c .0 refl)) w,
+  )
+  pipeline-published (step s (suc q) o) = (
+    λ e. inr (λ (z : suc q ≡ 0). let x : ⊥ = omega arith in x, leads-some o (suc q) e),
+    λ w.
+        ⊎-elim (λ c. let (z, n) = c in let x : ⊥ = omega arith in absurd x)
+        (λ c. let (z, p) = c in some-leads o (suc q) (p .0) (p .1) (p .2) (p .3)) w,
+  )

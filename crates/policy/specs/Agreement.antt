@@ -1,0 +1,106 @@
+-- The agreement, as one claim about whole lists of put calls, for a rulebook that loads. Each call may have any bytes.
+-- Its sentences are document 01's third demand; what they speak of is defined first.
+use Prim.Native.Nat.{ℕ}
+use mathlib.Core.Path.{_≡_}
+use mathlib.Core.Logic.{_↔_}
+use mathlib.Core.Bool.{Bool, true, false, cond}
+use mathlib.Core.List.{List, [], _∷_, List·Memᴰ, Perm}
+use lib.Dec.{eqb}
+use Rattle.policy.specs.declared.Tables.{Tables}
+use Rattle.policy.specs.Tables.{
+  noFirm,
+  noPerson,
+  noFolder,
+  noRole,
+  firmAt,
+  personAt,
+  folderAt,
+  roleAt,
+  enables,
+  inForce,
+}
+use Rattle.policy.specs.Rulebook.{Record, rules, firm, person, folder, role, pair, loadBook, recordsOf}
+use Rattle.policy.specs.Request.{Request, read, write, start, step, requestOf}
+use Rattle.policy.specs.Calls.{blankNumber, blankHistory, addedIf, judgeList, putNumbers, putHistories}
+
+infix 30 _∈_
+abbrev pub _∈_ : {A : Type 0} → A → List A → Type 0
+a ∈ l = List·Memᴰ a l
+
+-- the tables hold what the records declare, all of it and nothing else: what no record declares is zero and marked undeclared
+pub record Holds (t : Tables) (records : List Record) : Type 0 where
+  pub mask : (m : ℕ) → (rules m ∈ records) ↔ (t .mask ≡ m)
+  pub firms : (f class : ℕ) → firm f class ∈ records → firmAt t f ≡ record { declared = true; class = class }
+  pub noFirms : (f : ℕ) → ((class : ℕ) → firm f class ∈ records → ⊥) → firmAt t f ≡ noFirm
+  pub persons :
+      (s level : ℕ) → person s level ∈ records
+      → personAt t s ≡ record { declared = true; level = record { 0 = level } }
+  pub noPersons : (s : ℕ) → ((level : ℕ) → person s level ∈ records → ⊥) → personAt t s ≡ noPerson
+  pub folders :
+      (o f kind level : ℕ) → folder o f kind level ∈ records
+      → folderAt t o ≡ record { declared = true; firm = f; kind = kind; level = record { 0 = level } }
+  pub noFolders :
+      (o : ℕ) → ((f kind level : ℕ) → folder o f kind level ∈ records → ⊥) → folderAt t o ≡ noFolder
+  pub roles : (k rights : ℕ) → role k rights ∈ records → roleAt t k ≡ record { declared = true; rights = rights }
+  pub noRoles : (k : ℕ) → ((rights : ℕ) → role k rights ∈ records → ⊥) → roleAt t k ≡ noRole
+  pub pairs : (p q : ℕ) → (pair p q ∈ records) ↔ (enables t p q ≡ true)
+
+-- from blank: right after a blank that answered 0
+abbrev pub FromBlank : List ℕ → Type 0
+FromBlank h = (before : List ℕ) × (blankNumber before ≡ 0) × (h ≡ blankHistory before)
+
+-- the requests, kind and fields, of the calls answered 0, in the order of the calls
+unfoldable pub answeredZero : List (List ℕ) → List ℕ → List Request
+answeredZero [] numbers = []
+answeredZero (bytes ∷ calls) [] = []
+answeredZero (bytes ∷ calls) (n ∷ numbers) = addedIf (eqb n 0) (requestOf bytes) (answeredZero calls numbers)
+
+unfoldable pub granted : Tables → List ℕ → List (List ℕ) → List Request
+granted t h calls = answeredZero calls (putNumbers t h calls)
+
+-- the same set was granted: without order or repeats
+abbrev pub SameSet : List Request → List Request → Type 0
+SameSet g g′ = (r : Request) → (r ∈ g) ↔ (r ∈ g′)
+
+-- the person and the step of each granted step on a folder, in the order of the calls
+pub record Done : Type 0 where
+  pub person : ℕ
+  pub number : ℕ
+
+unfoldable pub stepsOn : ℕ → List Request → List Done
+stepsOn o [] = []
+stepsOn o (read s f ∷ g) = stepsOn o g
+stepsOn o (write s f ∷ g) = stepsOn o g
+stepsOn o (start s u ∷ g) = stepsOn o g
+stepsOn o (step s p f ∷ g) = cond (eqb f o) (record { person = s; number = p } ∷ stepsOn o g) (stepsOn o g)
+
+-- granted throughout: every call answers 0
+abbrev pub Throughout : Tables → List ℕ → List (List ℕ) → Type 0
+Throughout t h calls = (n : ℕ) → n ∈ putNumbers t h calls → n ≡ 0
+
+-- the agreement on tables and the records of their book, for any two lists from blank
+pub record Agreement (t : Tables) (records : List Record) (h h′ : List ℕ) (xs ys : List (List ℕ)) : Type 0 where
+  -- tables hold what the records declare
+  pub tables : Holds t records
+  -- numbers are those of the definitions over the set granted so far
+  pub numbers : putNumbers t h xs ≡ judgeList t [] xs
+  -- histories are equal byte for byte exactly where the granted sets are
+  pub histories : (putHistories t h xs ≡ putHistories t h′ ys) ↔ SameSet (granted t h xs) (granted t h′ ys)
+  -- the same set has the same future: the same numbers place by place, and equal histories
+  pub future :
+      SameSet (granted t h xs) (granted t h′ ys) → (zs : List (List ℕ))
+      → (putNumbers t (putHistories t h xs) zs ≡ putNumbers t (putHistories t h′ ys) zs)
+      × (putHistories t (putHistories t h xs) zs ≡ putHistories t (putHistories t h′ ys) zs)
+  -- under the pipeline the granted steps on a folder came in the same order
+  pub steps :
+      inForce t 3 ≡ true → SameSet (granted t h xs) (granted t h′ ys)
+      → (o : ℕ) → stepsOn o (granted t h xs) ≡ stepsOn o (granted t h′ ys)
+  -- without low-water and pipeline every reordering of a granted list is granted
+  pub orders : inForce t 1 ≡ false → inForce t 3 ≡ false → Perm xs ys → Throughout t h xs → Throughout t h′ ys
+
+-- the claim: every rulebook that loads, every two lists from blank
+abbrev pub Claim : Type 0
+Claim =
+    (book : List ℕ) → loadBook book .number ≡ 0
+    → (h h′ : List ℕ) → FromBlank h → FromBlank h′
+    → (xs ys : List (List ℕ)) → Agreement (loadBook book .tables) (recordsOf book) h h′ xs ys

@@ -1,0 +1,11 @@
+pub mod Checks
+pub mod Tables
+pub mod Rulebook
+pub mod History
+pub mod Request
+pub mod Rules
+pub mod Calls
+pub mod Published
+pub mod Marked
+pub mod Agreement
+pub mod Demands

@@ -1,0 +1,90 @@
+-- The marked cases P1 to P10 of document 01: what is asked, and what is answered.
+use Prim.Native.Nat.{ℕ}
+use mathlib.Core.Path.{_≡_}
+use mathlib.Core.Bool.{Bool}
+use mathlib.Core.List.{List, [], _∷_, _++_}
+use Rattle.level.specs.Levels.{meetOf}
+use Rattle.policy.specs.declared.Tables.{Tables}
+use Rattle.policy.specs.Checks.{_else_, ladder}
+use Rattle.policy.specs.Rulebook.{loadBook}
+use Rattle.policy.specs.Request.{Request, read, start, member}
+use Rattle.policy.specs.Rules.{wall, lowWater, currentLevel}
+use Rattle.policy.specs.Calls.{restOf, callsOf, judgeList, grantedIn, refusedIn}
+
+-- the printed book: the role's rights in bytes of their own, since P10 has others
+abbrev pub bookWith : List ℕ → List ℕ
+bookWith rights =
+    1 ∷ 15
+    ∷ 2 ∷ 0 ∷ 0
+    ∷ 2 ∷ 1 ∷ 0
+    ∷ 2 ∷ 2 ∷ 1
+    ∷ 3 ∷ 0 ∷ 3 ∷ 32
+    ∷ 3 ∷ 1 ∷ 1 ∷ 16
+    ∷ 4 ∷ 0 ∷ 0 ∷ 0 ∷ 3 ∷ 32
+    ∷ 4 ∷ 1 ∷ 1 ∷ 0 ∷ 3 ∷ 32
+    ∷ 4 ∷ 2 ∷ 2 ∷ 1 ∷ 1 ∷ 16
+    ∷ 5 ∷ 0 ∷ (rights ++ 6 ∷ 0 ∷ 1 ∷ 6 ∷ 1 ∷ 2 ∷ 0 ∷ [])
+
+abbrev pub printedBook : List ℕ
+printedBook = bookWith (3 ∷ 0 ∷ 3 ∷ 0 ∷ 1 ∷ 0 ∷ 7 ∷ 0 ∷ [])
+
+abbrev pub printedRequests : List ℕ
+printedRequests =
+    17 ∷ 0 ∷ 0
+    ∷ 16 ∷ 0 ∷ 1
+    ∷ 16 ∷ 0 ∷ 2
+    ∷ 17 ∷ 0 ∷ 0
+    ∷ 18 ∷ 0 ∷ 1
+    ∷ 19 ∷ 1 ∷ 1 ∷ 2
+    ∷ 19 ∷ 1 ∷ 0 ∷ 2
+    ∷ 19 ∷ 1 ∷ 1 ∷ 2
+    ∷ 19 ∷ 1 ∷ 1 ∷ 2
+    ∷ 16 ∷ 5 ∷ 0
+    ∷ []
+
+-- P8: person 0 at 0x1000, person 1 first at 0x1003, folders 0 and 1 at 0x1001 and 0x1002
+abbrev pub lowWaterBook : List ℕ
+lowWaterBook =
+    1 ∷ 2
+    ∷ 2 ∷ 0 ∷ 0
+    ∷ 3 ∷ 0 ∷ 0 ∷ 16
+    ∷ 3 ∷ 1 ∷ 3 ∷ 16
+    ∷ 4 ∷ 0 ∷ 0 ∷ 0 ∷ 1 ∷ 16
+    ∷ 4 ∷ 1 ∷ 0 ∷ 0 ∷ 2 ∷ 16
+    ∷ 0
+    ∷ []
+
+-- the answers of a book and the requests after it, from the empty set
+abbrev pub played : List ℕ → List ℕ
+played bytes = judgeList (loadBook bytes .tables) [] (callsOf (restOf bytes))
+
+abbrev pub loading : List ℕ → List ℕ
+loading book = loadBook book .number ∷ loadBook book .offset ∷ []
+
+-- one rule alone, in force: 0 where it grants, else its number
+unfoldable pub wallAnswer : Tables → (Request → Bool) → Request → ℕ
+wallAnswer t H r = ladder ((wall t H r else 14) ∷ [])
+
+unfoldable pub lowWaterAnswer : Tables → (Request → Bool) → Request → ℕ
+lowWaterAnswer t H r = ladder ((lowWater t (currentLevel t H) r else 15) ∷ [])
+
+-- the answers, then how many grant and how many refuse
+unfoldable pub withTotals : List ℕ → List ℕ
+withTotals answers = answers ++ grantedIn answers ∷ refusedIn answers ∷ []
+
+-- the table: what the definitions give in each case, and what document 01 prints
+pub record MarkedCases : Type 0 where
+  pub P1 :
+      withTotals (played (printedBook ++ printedRequests))
+      ≡ 0 ∷ 14 ∷ 0 ∷ 15 ∷ 0 ∷ 17 ∷ 0 ∷ 0 ∷ 17 ∷ 13 ∷ 5 ∷ 5 ∷ []
+  pub P2 : loading [] ≡ 1 ∷ 0 ∷ []
+  pub P3 : loading (0 ∷ []) ≡ 3 ∷ 0 ∷ []
+  pub P4 : loading (1 ∷ 15 ∷ 6 ∷ 3 ∷ 4 ∷ 0 ∷ []) ≡ 9 ∷ 5 ∷ []
+  pub P5 : loading (1 ∷ 15 ∷ 6 ∷ 0 ∷ 0 ∷ 0 ∷ []) ≡ 7 ∷ 2 ∷ []
+  pub P6-loads : loading (1 ∷ 15 ∷ 0 ∷ []) ≡ 0 ∷ 2 ∷ []
+  pub P6-refused : loading (1 ∷ 16 ∷ 0 ∷ []) ≡ 4 ∷ 0 ∷ []
+  pub P7 : meetOf 12 0x1001 0x1002 ≡ 0x1000
+  pub P8 : lowWaterAnswer (loadBook lowWaterBook .tables) (member (read 1 0 ∷ read 1 1 ∷ [])) (start 0 1) ≡ 0
+  pub P9-one : wallAnswer (loadBook printedBook .tables) (member (read 0 0 ∷ read 0 1 ∷ [])) (read 0 0) ≡ 0
+  pub P9-other : wallAnswer (loadBook printedBook .tables) (member (read 0 0 ∷ read 0 1 ∷ [])) (read 0 1) ≡ 0
+  pub P10 : played (bookWith (3 ∷ 0 ∷ 3 ∷ 0 ∷ 1 ∷ 0 ∷ 3 ∷ 0 ∷ []) ++ 19 ∷ 1 ∷ 2 ∷ 2 ∷ []) ≡ 16 ∷ []

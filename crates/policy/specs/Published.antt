@@ -1,0 +1,68 @@
+-- The four rules as document 001 prints them (sections 4.1 to 4.4), with "there is" and "for all", as types.
+use Prim.Native.Nat.{ℕ}
+use mathlib.Core.Path.{_≡_}
+use mathlib.Core.Logic.{_⊎_, _≢_}
+use mathlib.Core.Bool.{Bool, true}
+use Rattle.bits.specs.Bits.{bit}
+use Rattle.level.specs.Levels.{atMost}
+use Rattle.policy.specs.declared.Tables.{Tables}
+use Rattle.policy.specs.Request.{Request, read, write, start, step, subject}
+use Rattle.policy.specs.Tables.{personAt, folderAt, roleAt, enables, roleDeclared, classOf}
+use Rattle.policy.specs.Rules.{declared, right, currentLevel}
+
+-- ⟨s, o⟩: the request is an access of person s to folder o
+abbrev pub Access : Request → ℕ → ℕ → Type 0
+Access (read s o) s′ o′ = (s ≡ s′) × (o ≡ o′)
+Access (write s o) s′ o′ = (s ≡ s′) × (o ≡ o′)
+Access (start s u) s′ o′ = ⊥
+Access (step s p o) s′ o′ = (s ≡ s′) × (o ≡ o′)
+
+module _ (t : Tables) (H : Request → Bool) where
+  -- r ∈ H, the shallow history: granted, and of declared persons and folders
+  abbrev pub InHistory : Request → Type 0
+  InHistory r = (declared t r ≡ true) × (H r ≡ true)
+
+  -- ⟨s, o⟩ ∈ H
+  abbrev pub Accessed : ℕ → ℕ → Type 0
+  Accessed s o = (r : Request) × InHistory r × Access r s o
+
+  -- 4.1: there exists ⟨s, o′⟩ ∈ H such that group[o] = group[o′],
+  -- or for all ⟨s, o′⟩ ∈ H, type[group[o]] ≠ type[group[o′]]
+  abbrev pub WallAccess : ℕ → ℕ → Type 0
+  WallAccess s o =
+      ((o′ : ℕ) × Accessed s o′ × (folderAt t o .firm ≡ folderAt t o′ .firm))
+      ⊎ ((o′ : ℕ) → Accessed s o′ → classOf t o ≢ classOf t o′)
+
+  abbrev pub Wall : Request → Type 0
+  Wall r = (s o : ℕ) → Access r s o → WallAccess s o
+
+  -- 4.2, with the initial history: write is defined where l[o] ≤ l[o′] for all read(s, o′) ∈ H, and l[o] ≤ the first level of s;
+  -- read always. Start is document 01's: rule 3 with meets. Step passes.
+  abbrev pub LowWater : Request → Type 0
+  LowWater (read s o) = Unit {0}
+  LowWater (write s o) =
+      (atMost 12 (folderAt t o .level .0) (personAt t s .level .0) ≡ true)
+      × ((o′ : ℕ) → InHistory (read s o′) → atMost 12 (folderAt t o .level .0) (folderAt t o′ .level .0) ≡ true)
+  LowWater (start s u) = atMost 12 (currentLevel t H u) (currentLevel t H s) ≡ true
+  LowWater (step s p o) = Unit {0}
+
+  -- 4.3: H ∪ {r} ⊆ C for some class C of permitted accesses; a role permits the requests of one person whose rights are in it
+  abbrev pub Roles : Request → Type 0
+  Roles r =
+      (k : ℕ) × (roleDeclared t k ≡ true)
+      × ((q : Request) → (q ≡ r) ⊎ (InHistory q × (subject q ≡ subject r)) → bit (roleAt t k .rights) (right t q) ≡ true)
+
+  -- ⟨p, o⟩ ∈ H: step p was applied to folder o, by anyone
+  abbrev pub Applied : ℕ → ℕ → Type 0
+  Applied p o = (s : ℕ) × InHistory (step s p o)
+
+  -- 4.4, with document 01's step rule: create where no step was applied; any other step where for some p
+  -- ⟨p, o⟩ ∈ H, and p enables it, and there is no p″ such that ⟨p″, o⟩ ∈ H and p enables p″
+  abbrev pub Pipeline : Request → Type 0
+  Pipeline (read s o) = Unit {0}
+  Pipeline (write s o) = Unit {0}
+  Pipeline (start s u) = Unit {0}
+  Pipeline (step s q o) =
+      ((q ≡ 0) × ((p : ℕ) → Applied p o → ⊥))
+      ⊎ ((q ≢ 0)
+      × ((p : ℕ) × Applied p o × (enables t p q ≡ true) × ((p″ : ℕ) → Applied p″ o → enables t p p″ ≡ true → ⊥)))

@@ -1,0 +1,60 @@
+// The declared types of the monitor: the tables of a rulebook and what the calls return.
+use level::Level;
+
+// A firm and its conflict class (document 01: "class of rivals").
+pub struct Firm {
+    pub declared: bool,
+    pub class: u8,
+}
+
+// A person and the person's first level.
+pub struct Person {
+    pub declared: bool,
+    pub level: Level,
+}
+
+// A folder, the firm that it belongs to, its kind and its level.
+pub struct Folder {
+    pub declared: bool,
+    pub firm: u8,
+    pub kind: u8,
+    pub level: Level,
+}
+
+// A role and the set of its rights: bit r for right r.
+pub struct Role {
+    pub declared: bool,
+    pub rights: u64,
+}
+
+// The tables of a rulebook. Undeclared entries are zero and marked so; the entry of a step is the set of the steps that it enables.
+pub struct Tables {
+    pub mask: u8,
+    pub firms: [Firm; 64],
+    pub persons: [Person; 64],
+    pub folders: [Folder; 128],
+    pub roles: [Role; 32],
+    pub steps: [u16; 16],
+}
+
+// What loading returns: 0 or the number of the refusal, the offset of the end record or the refused one, and the tables.
+pub struct Loaded {
+    pub number: u8,
+    pub offset: usize,
+    pub tables: Tables,
+}
+
+// What a run returns: its own number, and how many of the answers that it wrote are 0 and how many are not.
+pub struct Ran {
+    pub number: u8,
+    pub granted: usize,
+    pub refused: usize,
+}
+
+// A person's standing: the number, the current level, how many rights the person used and how many firms the person opened.
+pub struct Standing {
+    pub number: u8,
+    pub level: Level,
+    pub rights: u32,
+    pub firms: u32,
+}
