@@ -79,13 +79,13 @@ use Rattle.policy.proofs.Accesses.{
 module _ (t : Tables) (H : Request → Bool) where
   -- ---- the wall
 
-  opened-some : (s f : ℕ) → opened t H s f ≡ true → (o : ℕ) × Accessed t H s o × (f ≡ folderAt t o .firm)
+  pub opened-some : (s f : ℕ) → opened t H s f ≡ true → (o : ℕ) × Accessed t H s o × (f ≡ folderAt t o .firm)
   unfolding opened
   opened-some s f e =
       let (o, l, w) = any-some 128 (λ o. accessed t H s o && eqb (folderAt t o .firm) f) e in
       (o, accessed-some t H s o (and-left (accessed t H s o) _ w), sym (eqb-true _ _ (and-right (accessed t H s o) _ w)))
 
-  some-opened : (s f o : ℕ) → Accessed t H s o → f ≡ folderAt t o .firm → opened t H s f ≡ true
+  pub some-opened : (s f o : ℕ) → Accessed t H s o → f ≡ folderAt t o .firm → opened t H s f ≡ true
   unfolding opened
   some-opened s f o a e =
       some-any 128 (λ o. accessed t H s o && eqb (folderAt t o .firm) f) o (accessed-below t H s o a)

@@ -1,0 +1,116 @@
+-- A request is granted exactly where it is whole and every check of it passes: each step of the ladder leads on only where its check
+-- permits. A put then adds the request to the granted ones, and changes nothing otherwise.
+use Prim.Native.Nat.{ℕ, suc}
+use native.Mathlib.Omega.{arith}
+use mathlib.Core.Path.{_≡_, refl, sym, ap, _∙_}
+use mathlib.Core.Logic.{_≢_}
+use mathlib.Core.Bool.{Bool, true, false, cond, false≢true}
+use mathlib.Core.List.{List, [], _∷_}
+use mathlib.Core.Option.{Option, none, some}
+use lib.Dec.{eqb}
+use borrow.Author.Tests.{ne-eqb}
+use Rattle.bits.specs.Bounded.{_⇒_}
+use Rattle.policy.specs.declared.Tables.{Tables}
+use Rattle.policy.specs.Checks.{ladder}
+use Rattle.policy.specs.Tables.{inForce}
+use Rattle.policy.specs.Request.{Request, requestOf, member}
+use Rattle.policy.specs.Rules.{declared, wall, lowWater, currentLevel, roles, pipeline}
+use Rattle.policy.specs.Calls.{requestChecks, judgeOver, addedIf, judgeList}
+
+-- every check of a request passes
+pub record Passed (t : Tables) (H : Request → Bool) (r : Request) : Type 0 where
+  pub parties : declared t r ≡ true
+  pub walled : (inForce t 0 ⇒ wall t H r) ≡ true
+  pub levelled : (inForce t 1 ⇒ lowWater t (currentLevel t H) r) ≡ true
+  pub covered : (inForce t 2 ⇒ roles t H r) ≡ true
+  pub piped : (inForce t 3 ⇒ pipeline t H r) ≡ true
+
+cond-zero : (c : Bool) (n m : ℕ) → cond c m (suc n) ≡ 0 → (c ≡ true) × (m ≡ 0)
+cond-zero true n m e = (refl, e)
+cond-zero false n m e = let z : ⊥ = omega arith in absurd z
+
+zero-cond : (c : Bool) (n m : ℕ) → c ≡ true → m ≡ 0 → cond c m n ≡ 0
+zero-cond true n m p e = e
+zero-cond false n m p e = absurd (false≢true p)
+
+module _ (t : Tables) (H : Request → Bool) where
+  checks-passed : (r : Request) → ladder (requestChecks t H (some r)) ≡ 0 → Passed t H r
+  unfolding ladder requestChecks
+  checks-passed r e =
+      let a = cond-zero (declared t r) 12 _ e in
+      let b = cond-zero (inForce t 0 ⇒ wall t H r) 13 _ (a .1) in
+      let c = cond-zero (inForce t 1 ⇒ lowWater t (currentLevel t H) r) 14 _ (b .1) in
+      let d = cond-zero (inForce t 2 ⇒ roles t H r) 15 _ (c .1) in
+      let f = cond-zero (inForce t 3 ⇒ pipeline t H r) 16 _ (d .1) in
+      record { parties = a .0; walled = b .0; levelled = c .0; covered = d .0; piped = f .0 }
+
+  passed-checks : (r : Request) → Passed t H r → ladder (requestChecks t H (some r)) ≡ 0
+  unfolding ladder requestChecks
+  passed-checks r p =
+      zero-cond (declared t r) 13 _ (p .parties)
+      (zero-cond (inForce t 0 ⇒ wall t H r) 14 _ (p .walled)
+      (zero-cond (inForce t 1 ⇒ lowWater t (currentLevel t H) r) 15 _ (p .levelled)
+      (zero-cond (inForce t 2 ⇒ roles t H r) 16 _ (p .covered)
+      (zero-cond (inForce t 3 ⇒ pipeline t H r) 17 _ (p .piped) refl))))
+
+  pub judge-passed : (bytes : List ℕ) → judgeOver t H bytes ≡ 0
+      → (r : Request) × (requestOf bytes ≡ some r) × Passed t H r
+  unfolding judgeOver ladder requestChecks
+  judge-passed bytes e = go (requestOf bytes) refl e
+    where
+      go : (d : Option Request) → requestOf bytes ≡ d → ladder (requestChecks t H d) ≡ 0
+          → (r : Request) × (requestOf bytes ≡ some r) × Passed t H r
+      go none q z = let y : ⊥ = omega arith in absurd y
+      go (some r) q z = (r, q, checks-passed r z)
+
+  pub passed-judge : (bytes : List ℕ) (r : Request) → requestOf bytes ≡ some r → Passed t H r → judgeOver t H bytes ≡ 0
+  unfolding judgeOver
+  passed-judge bytes r q p = ap (λ (d : Option Request). ladder (requestChecks t H d)) q ∙ passed-checks r p
+
+-- the granted requests after one put, newest first
+unfoldable pub putOver : Tables → List Request → List ℕ → List Request
+putOver t g bytes = addedIf (eqb (judgeOver t (member g) bytes) 0) (requestOf bytes) g
+
+-- the granted requests after a list of puts, newest first
+unfoldable pub grantedOver : Tables → List Request → List (List ℕ) → List Request
+grantedOver t g [] = g
+grantedOver t g (bytes ∷ calls) = grantedOver t (putOver t g bytes) calls
+
+pub put-granted : (t : Tables) (g : List Request) (bytes : List ℕ) (r : Request)
+    → requestOf bytes ≡ some r → judgeOver t (member g) bytes ≡ 0 → putOver t g bytes ≡ r ∷ g
+unfolding putOver addedIf
+put-granted t g bytes r q e =
+    ap (λ (n : ℕ). addedIf (eqb n 0) (requestOf bytes) g) e ∙ ap (λ (d : Option Request). addedIf true d g) q
+
+pub put-refused : (t : Tables) (g : List Request) (bytes : List ℕ) → judgeOver t (member g) bytes ≢ 0 → putOver t g bytes ≡ g
+unfolding putOver addedIf
+put-refused t g bytes n = ap (λ (b : Bool). addedIf b (requestOf bytes) g) (ne-eqb _ _ n)
+
+pub granted-none : (t : Tables) (g : List Request) → grantedOver t g [] ≡ g
+unfolding grantedOver
+granted-none t g = refl
+
+pub granted-more : (t : Tables) (g : List Request) (bytes : List ℕ) (calls : List (List ℕ))
+    → grantedOver t g (bytes ∷ calls) ≡ grantedOver t (putOver t g bytes) calls
+unfolding grantedOver
+granted-more t g bytes calls = refl
+
+pub judge-more : (t : Tables) (g : List Request) (bytes : List ℕ) (calls : List (List ℕ))
+    → judgeList t g (bytes ∷ calls) ≡ judgeOver t (member g) bytes ∷ judgeList t (putOver t g bytes) calls
+unfolding judgeList putOver
+judge-more t g bytes calls = refl
+
+-- one request after another: what holds of the granted requests, and is kept by every granted one, holds after the list
+pub granted-keeps : (t : Tables) (P : List Request → Type 0)
+    → ((g : List Request) (r : Request) → P g → Passed t (member g) r → P (r ∷ g))
+    → (g : List Request) (calls : List (List ℕ)) → P g → P (grantedOver t g calls)
+unfolding grantedOver
+granted-keeps t P more g [] p = p
+granted-keeps t P more g (bytes ∷ calls) p = granted-keeps t P more (putOver t g bytes) calls (go (eqb (judgeOver t (member g) bytes) 0) refl)
+  where
+    go : (b : Bool) → eqb (judgeOver t (member g) bytes) 0 ≡ b → P (putOver t g bytes)
+    go true e =
+        let z = borrow.Author.Tests.eqb-true (judgeOver t (member g) bytes) 0 e in
+        let (r, q, w) = judge-passed t (member g) bytes z in
+        rw (put-granted t g bytes r q z) (more g r p w)
+    go false e = rw (put-refused t g bytes (borrow.Author.Tests.eqb-false (judgeOver t (member g) bytes) 0 e)) p
