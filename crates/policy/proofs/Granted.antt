@@ -8,7 +8,7 @@ use mathlib.Core.Bool.{Bool, true, false, cond, false≢true}
 use mathlib.Core.List.{List, [], _∷_}
 use mathlib.Core.Option.{Option, none, some}
 use lib.Dec.{eqb}
-use borrow.Author.Tests.{ne-eqb}
+use borrow.Author.Tests.{eqb-true, eqb-false, ne-eqb}
 use Rattle.bits.specs.Bounded.{_⇒_}
 use Rattle.policy.specs.declared.Tables.{Tables}
 use Rattle.policy.specs.Checks.{ladder}
@@ -34,7 +34,7 @@ zero-cond true n m p e = e
 zero-cond false n m p e = absurd (false≢true p)
 
 module _ (t : Tables) (H : Request → Bool) where
-  checks-passed : (r : Request) → ladder (requestChecks t H (some r)) ≡ 0 → Passed t H r
+  pub checks-passed : (r : Request) → ladder (requestChecks t H (some r)) ≡ 0 → Passed t H r
   unfolding ladder requestChecks
   checks-passed r e =
       let a = cond-zero (declared t r) 12 _ e in
@@ -44,7 +44,7 @@ module _ (t : Tables) (H : Request → Bool) where
       let f = cond-zero (inForce t 3 ⇒ pipeline t H r) 16 _ (d .1) in
       record { parties = a .0; walled = b .0; levelled = c .0; covered = d .0; piped = f .0 }
 
-  passed-checks : (r : Request) → Passed t H r → ladder (requestChecks t H (some r)) ≡ 0
+  pub passed-checks : (r : Request) → Passed t H r → ladder (requestChecks t H (some r)) ≡ 0
   unfolding ladder requestChecks
   passed-checks r p =
       zero-cond (declared t r) 13 _ (p .parties)
@@ -106,11 +106,12 @@ pub granted-keeps : (t : Tables) (P : List Request → Type 0)
     → (g : List Request) (calls : List (List ℕ)) → P g → P (grantedOver t g calls)
 unfolding grantedOver
 granted-keeps t P more g [] p = p
-granted-keeps t P more g (bytes ∷ calls) p = granted-keeps t P more (putOver t g bytes) calls (go (eqb (judgeOver t (member g) bytes) 0) refl)
+granted-keeps t P more g (bytes ∷ calls) p =
+    granted-keeps t P more (putOver t g bytes) calls (go (eqb (judgeOver t (member g) bytes) 0) refl)
   where
     go : (b : Bool) → eqb (judgeOver t (member g) bytes) 0 ≡ b → P (putOver t g bytes)
     go true e =
-        let z = borrow.Author.Tests.eqb-true (judgeOver t (member g) bytes) 0 e in
+        let z = eqb-true (judgeOver t (member g) bytes) 0 e in
         let (r, q, w) = judge-passed t (member g) bytes z in
         rw (put-granted t g bytes r q z) (more g r p w)
-    go false e = rw (put-refused t g bytes (borrow.Author.Tests.eqb-false (judgeOver t (member g) bytes) 0 e)) p
+    go false e = rw (put-refused t g bytes (eqb-false (judgeOver t (member g) bytes) 0 e)) p

@@ -6,3 +6,11 @@ pub mod Circles
 pub mod Granted
 pub mod Reordering
 pub mod StepOrder
+pub mod Places
+pub mod Ladders
+pub mod Numbers
+pub mod Refusals
+pub mod Runs
+pub mod Histories
+pub mod Agreement
+pub mod Grants

@@ -1,0 +1,95 @@
+-- The agreement, for every rulebook that loads and any two lists of put calls from blank. Its parts are shown elsewhere: tables in Loads,
+-- numbers, histories and future in Histories, the order of steps in StepOrder, reorderings in Reordering. Here they are put together:
+-- the granted requests of a list, newest first, are those of its calls answered 0 the other way round.
+use Prim.Native.Nat.{ℕ}
+use native.Mathlib.Nat.{ℕ-set}
+use mathlib.Core.Path.{_≡_, refl, sym, ap, _∙_}
+use mathlib.Core.Logic.{⊎-elim, ∥∥₁-elim}
+use mathlib.Core.Bool.{Bool, true, false, cond}
+use mathlib.Core.List.{
+  List,
+  [],
+  _∷_,
+  reverse,
+  reverseAux,
+  Perm,
+  List·Permᴰ,
+  List·Permᴰ·nil,
+  List·Permᴰ·cons,
+  List·Permᴰ·swap,
+  List·Permᴰ·trans,
+  List·Memᴰ·head,
+  List·Memᴰ·tail,
+  List·Memᴰ·cases-cons
+}
+use lib.Dec.{eqb}
+use Rattle.policy.specs.declared.Tables.{Tables}
+use Rattle.policy.specs.Tables.{enables, inForce}
+use Rattle.policy.specs.Rulebook.{given, hasCircle, loadBook, recordsOf}
+use Rattle.policy.specs.Request.{Request, read, write, start, step, member}
+use Rattle.policy.specs.Calls.{judgeList, putNumbers}
+use Rattle.policy.specs.Agreement.{_∈_, FromBlank, granted, SameSet, Done, stepsOn, Throughout, Agreement, Claim}
+use Rattle.policy.proofs.Circles.{Way, no-circle}
+use Rattle.policy.proofs.Granted.{grantedOver}
+use Rattle.policy.proofs.Histories.{
+  same-members,
+  numbers-over,
+  granted-reverse,
+  granted-member,
+  equal-histories,
+  same-future
+}
+use Rattle.policy.proofs.Reordering.{zeros-granted, granted-zeros, reordered}
+use Rattle.policy.proofs.StepOrder.{same-order}
+
+-- ---- the order of the calls
+
+steps-reversed : (o : ℕ) (l g : List Request) → stepsOn o (reverseAux l g) ≡ reverseAux (stepsOn o l) (stepsOn o g)
+unfolding stepsOn
+steps-reversed o [] g = refl
+steps-reversed o (read s f ∷ l) g = steps-reversed o l (read s f ∷ g)
+steps-reversed o (write s f ∷ l) g = steps-reversed o l (write s f ∷ g)
+steps-reversed o (start s u ∷ l) g = steps-reversed o l (start s u ∷ g)
+steps-reversed o (step s p f ∷ l) g = steps-reversed o l (step s p f ∷ g) ∙ go (eqb f o)
+  where
+    this : Done
+    this = record { person = s; number = p }
+    go : (b : Bool)
+        → reverseAux (stepsOn o l) (cond b (this ∷ stepsOn o g) (stepsOn o g))
+        ≡ reverseAux (cond b (this ∷ stepsOn o l) (stepsOn o l)) (stepsOn o g)
+    go true = refl
+    go false = refl
+
+-- ---- reorderings
+
+-- a reordering has the same calls
+perm-in : {A : Type 0} {l m : List A} → List·Permᴰ l m → (x : A) → x ∈ m → x ∈ l
+perm-in List·Permᴰ·nil x h = h
+perm-in (List·Permᴰ·cons e d) x h =
+    ⊎-elim (λ i. List·Memᴰ·head (i ∙ sym e)) (λ k. List·Memᴰ·tail (perm-in d x k)) (List·Memᴰ·cases-cons h)
+perm-in (List·Permᴰ·swap e f) x h =
+    ⊎-elim (λ i. List·Memᴰ·tail (List·Memᴰ·head (i ∙ sym f)))
+    (λ k. ⊎-elim (λ i. List·Memᴰ·head (i ∙ sym e)) (λ j. List·Memᴰ·tail (List·Memᴰ·tail j)) (List·Memᴰ·cases-cons k))
+    (List·Memᴰ·cases-cons h)
+perm-in (List·Permᴰ·trans d d′) x h = perm-in d x (perm-in d′ x h)
+
+module _ (t : Tables) (ok : given t ≡ true) (h h′ : List ℕ) (blank : FromBlank h) (blank′ : FromBlank h′) (xs ys : List (List ℕ)) where
+  steps-in-order : inForce t 3 ≡ true → ((p : ℕ) → Way t p p → ⊥) → SameSet (granted t h xs) (granted t h′ ys)
+      → (o : ℕ) → stepsOn o (granted t h xs) ≡ stepsOn o (granted t h′ ys)
+  unfolding stepsOn
+  steps-in-order on none same o =
+      let members : (r : Request) → member (grantedOver t [] xs) r ≡ member (grantedOver t [] ys) r =
+              λ r. sym (granted-member t ok h xs r blank) ∙ same-members _ _ same r ∙ granted-member t ok h′ ys r blank′ in
+      ap (stepsOn o) (granted-reverse t ok h xs blank)
+      ∙ steps-reversed o (grantedOver t [] xs) []
+      ∙ ap reverse (same-order t on none xs ys members o)
+      ∙ sym (steps-reversed o (grantedOver t [] ys) [])
+      ∙ ap (stepsOn o) (sym (granted-reverse t ok h′ ys blank′))
+
+  every-order : inForce t 1 ≡ false → inForce t 3 ≡ false → Perm xs ys → Throughout t h xs → Throughout t h′ ys
+  every-order low pipe perm zeros n m =
+      ∥∥₁-elim perm (ℕ-set n 0) (λ d.
+        granted-zeros t [] ys
+        (reordered t low pipe xs ys (perm-in d)
+        (zeros-granted t [] xs (λ k i. zeros k (rw (numbers-over t ok h xs blank) i)))) n
+        (rw (numbers-over t ok h′ ys blank′) at m))

@@ -1,0 +1,88 @@
+-- Every call's number is a published one, because each is the number of an ordered list of checks, whose numbers are written in it; and a
+-- book comes to a refusal with a published number, or to tables with the number 0.
+use Prim.Native.Nat.{ℕ, zero, suc, _+_}
+use mathlib.Core.Path.{_≡_, refl}
+use mathlib.Core.Bool.{true}
+use mathlib.Core.List.{List, [], _∷_, _++_, List·Memᴰ·head, List·Memᴰ·tail}
+use mathlib.Core.Option.{Option, none, some}
+use lib.Dec.{eqb}
+use lib.ListN.{length, drop}
+use Rattle.policy.specs.declared.Tables.{Tables}
+use Rattle.policy.specs.declared.Loaded.{Loaded}
+use Rattle.policy.specs.Checks.{ladder}
+use Rattle.policy.specs.Rulebook.{
+  bodyLength,
+  recordOf,
+  recordChecks,
+  declare,
+  endChecks,
+  refusedBook,
+  ended,
+  loadFrom,
+  loadBook
+}
+use Rattle.policy.specs.Request.{Request, requestOf, setOf}
+use Rattle.policy.specs.Calls.{
+  blankNumber,
+  requestChecks,
+  callChecks,
+  judgeNumber,
+  runNumber,
+  standingNumber
+}
+use Rattle.policy.specs.Agreement.{_∈_}
+use Rattle.policy.specs.Demands.{Numbers}
+use Rattle.bits.proofs.Booleans.{by-test}
+use Rattle.policy.proofs.Ladders.{numbered, ladder-member, all-stand-in}
+
+-- ---- no check has the number 0
+
+pub record-numbered : (at : ℕ) (t : Tables) (kind : ℕ) (body : List ℕ) → numbered (recordChecks at t kind body) ≡ true
+unfolding recordChecks
+record-numbered at t kind body = refl
+
+pub end-numbered : (t : Tables) → numbered (endChecks t) ≡ true
+unfolding endChecks
+end-numbered t = refl
+
+-- ---- loading
+
+-- the numbers of a refused book, and 0
+abbrev pub bookNumbers : List ℕ
+bookNumbers = 0 ∷ 1 ∷ 2 ∷ 3 ∷ 4 ∷ 5 ∷ 6 ∷ 7 ∷ 8 ∷ 9 ∷ []
+
+-- what holds of every refusal, and of all tables with the number 0, holds of what a book comes to
+module _ (P : Loaded → Type 0) (refusal : (n at : ℕ) → n ∈ bookNumbers → P (refusedBook n at))
+    (loaded : (at : ℕ) (t : Tables) → P (record { number = 0; offset = at; tables = t }))
+    where
+  pub load-cases : (n at : ℕ) (bytes : List ℕ) (t : Tables) → P (loadFrom n at bytes t)
+  unfolding loadFrom ended recordChecks endChecks
+  load-cases zero at bytes t = refusal 1 at (List·Memᴰ·tail (List·Memᴰ·head refl))
+  load-cases (suc n) at [] t = refusal 1 at (List·Memᴰ·tail (List·Memᴰ·head refl))
+  load-cases (suc n) at (kind ∷ body) t =
+      by-test P (eqb (ladder (recordChecks at t kind body)) 0) _ _
+      (λ e. by-test P (eqb kind 0) _ _
+        (λ e. by-test P (eqb (ladder (endChecks t)) 0) _ _ (λ e. loaded at t)
+          (λ f. refusal _ at (all-stand-in bookNumbers _ _ refl (ladder-member (endChecks t)))))
+        (λ f. load-cases n (at + 1 + bodyLength kind) (drop (bodyLength kind) body) (declare t (recordOf kind body))))
+      (λ f. refusal _ at (all-stand-in bookNumbers _ _ refl (ladder-member (recordChecks at t kind body))))
+
+-- ---- every number
+
+judge-number : (t : Tables) (h : List ℕ) (r : Option Request)
+    → ladder (callChecks t h ++ requestChecks t (setOf h) r) ∈ (0 ∷ 10 ∷ 11 ∷ 12 ∷ 13 ∷ 14 ∷ 15 ∷ 16 ∷ 17 ∷ [])
+unfolding callChecks requestChecks
+judge-number t h none = all-stand-in _ _ _ refl (ladder-member (callChecks t h ++ requestChecks t (setOf h) none))
+judge-number t h (some r) = all-stand-in _ _ _ refl (ladder-member (callChecks t h ++ requestChecks t (setOf h) (some r)))
+
+pub numbers : Numbers
+unfolding blankNumber callChecks loadBook refusedBook judgeNumber runNumber standingNumber
+numbers =
+    record {
+      blank = λ h. ladder-member _;
+      load =
+      λ book. load-cases (λ l. l .number ∈ bookNumbers) (λ n at i. i) (λ at t. List·Memᴰ·head refl) (length book) 0 book _;
+      judge = λ t h bytes. judge-number t h (requestOf bytes);
+      run = λ t h requests answers. ladder-member _;
+      standing = λ t h s. ladder-member _
+    }

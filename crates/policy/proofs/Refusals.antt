@@ -1,0 +1,64 @@
+-- A refused call leaves what was lent to it, because each call chooses by its number; a refused book gives the tables of the empty book,
+-- because every way to refuse a book does.
+use Prim.Native.Nat.{ℕ}
+use mathlib.Core.Path.{_≡_, refl, sym, _∙_}
+use mathlib.Core.Logic.{_≢_}
+use mathlib.Core.List.{List, [], _∷_}
+use lib.ListN.{length}
+use borrow.Author.Tests.{ne-eqb}
+use Rattle.bits.specs.Bits.{bit, withBit}
+use Rattle.bits.specs.Bounded.{anyBelow}
+use Rattle.policy.specs.declared.Tables.{Tables}
+use Rattle.policy.specs.Checks.{ladder}
+use Rattle.policy.specs.Tables.{emptyTables, enables}
+use Rattle.policy.specs.Rulebook.{
+  bodyLength,
+  recordOf,
+  inRange,
+  declaredBefore,
+  firmStands,
+  entersCreate,
+  recordChecks,
+  declare,
+  reaches,
+  hasCircle,
+  isLoose,
+  hasLoose,
+  endChecks,
+  refusedBook,
+  ended,
+  loadFrom,
+  loadBook
+}
+use Rattle.policy.specs.Calls.{restOf, recordedIf, judgeNumber, putHistory, runNumber, runHistory, runAnswers}
+use Rattle.policy.specs.Demands.{Refusals}
+use Rattle.policy.proofs.Numbers.{load-cases}
+
+-- the empty book loads, to its tables
+empty-book : loadBook (1 ∷ 0 ∷ 0 ∷ []) .tables ≡ emptyTables
+unfolding
+  bit withBit anyBelow ladder emptyTables enables bodyLength recordOf inRange declaredBefore firmStands entersCreate recordChecks declare
+  reaches hasCircle isLoose hasLoose endChecks refusedBook ended loadFrom loadBook
+empty-book = refl
+
+pub refused-tables : (book : List ℕ) → loadBook book .number ≢ 0 → loadBook book .tables ≡ emptyTables
+unfolding loadBook refusedBook
+refused-tables book =
+    load-cases (λ l. l .number ≢ 0 → l .tables ≡ emptyTables) (λ n at i e. refl) (λ at t e. absurd (e refl))
+    (length book) 0 book emptyTables
+
+pub put-refused : (t : Tables) (h bytes : List ℕ) → judgeNumber t h bytes ≢ 0 → putHistory t h bytes ≡ h
+unfolding putHistory recordedIf
+put-refused t h bytes n = rw (ne-eqb (judgeNumber t h bytes) 0 n)
+
+pub refusals : Refusals
+unfolding runHistory runAnswers restOf
+refusals =
+    record {
+      put = put-refused;
+      run =
+      λ t h requests answers n.
+      let e = ne-eqb (runNumber t h requests answers) 0 n in
+      (rw e, rw e);
+      load = λ book n. (refused-tables book n ∙ sym empty-book, rw (ne-eqb (loadBook book .number) 0 n))
+    }
