@@ -1,7 +1,7 @@
 -- The bits of a number under "or", "and", halving and setting a bit, and that a number below 2 ^ w is fixed by its w lowest bits. The laws
 -- hold at every width, by induction on the width: a number is its half twice, and its lowest bit. The code's shifts and masks cite them.
-use Prim.Native.Nat.{ℕ, zero, suc, _+_, _*_, _/_, _%_, _^_, _≤_, _<_, min, max}
-use native.Mathlib.Nat.{pow-suc, div-one, one-mul, lt-of-le-of-lt}
+use Prim.Native.Nat.{ℕ, zero, suc, _+_, _-_, _*_, _/_, _%_, _^_, _≤_, _<_, min, max}
+use native.Mathlib.Nat.{pow-suc, div-one, one-mul, mul-comm, mul-assoc, lt-of-le-of-lt}
 use native.Mathlib.Numerals.{one-add}
 use native.Mathlib.Omega.{arith}
 use mathlib.Core.Path.{_≡_, refl, sym, ap, ap₂, _∙_}
@@ -11,9 +11,9 @@ use mathlib.Core.Bool.{Bool, true, false, cond, _&&_, _||_, false≢true}
 use lib.Arith.{lt-one}
 use lib.Bits.{bitAnd, bitOr, and-step, or-step, and-shr, or-shr, and-le-l, and-mask, or-lt}
 use lib.Count.{ones, ones-step}
-use lib.Dec.{eqb, leb, eqb·zero-suc, eqb·suc-zero, eqb·suc-suc, lit<}
+use lib.Dec.{eqb, leb, ltb, leb·suc-suc, eqb·zero-suc, eqb·suc-zero, eqb·suc-suc, lit<}
 use lib.Pow.{pow-lt, shr-shr, shl-exact}
-use borrow.Author.Tests.{leb-true, leb-false}
+use borrow.Author.Tests.{leb-true, leb-false, lt-ltb, le-ltb}
 use Rattle.bits.specs.Bits.{bit, withBit}
 use Rattle.bits.specs.Bounded.{countBelow}
 use Rattle.bits.proofs.Booleans.{and-implied, decide, false-elim}
@@ -172,3 +172,27 @@ shifted-bit n k = ap (λ (x : ℕ). eqb x 1) (and-mask (n / 2 ^ k) 1)
 pub or-shifted-one : (w n k : ℕ) → k < w → bitOr n ((1 * 2 ^ k) % 2 ^ w) ≡ withBit n k
 unfolding withBit
 or-shifted-one w n k l = ap (bitOr n) (shl-exact 1 k w (lit< tt) (omega arith) ∙ one-mul (2 ^ k))
+
+-- ---- a number above w bits of another
+
+pub bit-above : (w a b k : ℕ) → a < 2 ^ w → bit (a + 2 ^ w * b) k ≡ cond (ltb k w) (bit a k) (bit b (k - w))
+bit-above zero a b k l =
+    let e : a + 2 ^ 0 * b ≡ b = omega arith in
+    let f : k - 0 ≡ k = omega arith in
+    rw (e, le-ltb k 0 (omega arith), f)
+bit-above (suc w) a b zero l =
+    let x : 2 ^ suc w * b ≡ 2 * (2 ^ w * b) = ap (λ (n : ℕ). n * b) (pow-suc 2 w ∙ mul-comm (2 ^ w) 2) ∙ mul-assoc 2 (2 ^ w) b in
+    let e : (a + 2 ^ suc w * b) % 2 ≡ a % 2 = omega arith in
+    bit-low (a + 2 ^ suc w * b) ∙ ap (λ (n : ℕ). eqb n 1) e ∙ sym (bit-low a)
+    ∙ sym (ap (λ (c : Bool). cond c (bit a 0) (bit b (0 - suc w))) (lt-ltb 0 (suc w) (omega arith)))
+bit-above (suc w) a b (suc k) l =
+    let x : 2 ^ suc w * b ≡ 2 * (2 ^ w * b) = ap (λ (n : ℕ). n * b) (pow-suc 2 w ∙ mul-comm (2 ^ w) 2) ∙ mul-assoc 2 (2 ^ w) b in
+    let half : (a + 2 ^ suc w * b) / 2 ≡ a / 2 + 2 ^ w * b = omega arith in
+    let small : a / 2 < 2 ^ w = let p = pow-suc 2 w in omega arith in
+    let less : ltb k w ≡ ltb (suc k) (suc w) = sym (leb·suc-suc (suc k) w) in
+    let rest : k - w ≡ suc k - suc w = omega arith in
+    sym (bit-half (a + 2 ^ suc w * b) k)
+    ∙ ap (λ (n : ℕ). bit n k) half
+    ∙ bit-above w (a / 2) b k small
+    ∙ ap₂ (λ (c : Bool) (n : ℕ). cond c (bit (a / 2) k) (bit b n)) less rest
+    ∙ ap (λ (c : Bool). cond (ltb (suc k) (suc w)) c (bit b (suc k - suc w))) (bit-half a k)

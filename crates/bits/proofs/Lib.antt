@@ -1,3 +1,4 @@
 pub mod Booleans
 pub mod Bounds
 pub mod BitLaws
+pub mod Masks

@@ -1,8 +1,9 @@
 -- Bits of a number, bit 0 lowest. A set of small numbers is the number whose bits are its members.
 use Prim.Native.Nat.{ℕ, _/_, _%_, _^_}
-use mathlib.Core.Bool.{Bool}
+use mathlib.Core.Bool.{Bool, cond}
 use lib.Dec.{eqb}
 use lib.Bits.{bitOr}
+use Rattle.bits.specs.Bounded.{foldBelow}
 
 -- bit k of n: whether k is in the set n
 unfoldable pub bit : ℕ → ℕ → Bool
@@ -11,3 +12,11 @@ bit n k = eqb (n / 2 ^ k % 2) 1
 -- n with bit k set: the set n with k in it
 unfoldable pub withBit : ℕ → ℕ → ℕ
 withBit n k = bitOr n (2 ^ k)
+
+-- the set m, with k in it where p holds of k
+unfoldable pub withBitIf : (ℕ → Bool) → ℕ → ℕ → ℕ
+withBitIf p k m = cond (p k) (withBit m k) m
+
+-- the set of the numbers below n of which p holds
+unfoldable pub maskBelow : ℕ → (ℕ → Bool) → ℕ
+maskBelow n p = foldBelow n (withBitIf p) 0

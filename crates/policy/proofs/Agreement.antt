@@ -20,7 +20,7 @@ use mathlib.Core.List.{
   List·Permᴰ·trans,
   List·Memᴰ·head,
   List·Memᴰ·tail,
-  List·Memᴰ·cases-cons
+  List·Memᴰ·cases-cons,
 }
 use lib.Dec.{eqb}
 use Rattle.policy.specs.declared.Tables.{Tables}
@@ -37,8 +37,10 @@ use Rattle.policy.proofs.Histories.{
   granted-reverse,
   granted-member,
   equal-histories,
-  same-future
+  same-future,
 }
+use Rattle.policy.proofs.Loads.{loaded-given, loaded-sets, loaded-no-circle}
+use Rattle.policy.proofs.Holding.{loaded-holds}
 use Rattle.policy.proofs.Reordering.{zeros-granted, granted-zeros, reordered}
 use Rattle.policy.proofs.StepOrder.{same-order}
 
@@ -54,6 +56,7 @@ steps-reversed o (step s p f ∷ l) g = steps-reversed o l (step s p f ∷ g) �
   where
     this : Done
     this = record { person = s; number = p }
+
     go : (b : Bool)
         → reverseAux (stepsOn o l) (cond b (this ∷ stepsOn o g) (stepsOn o g))
         ≡ reverseAux (cond b (this ∷ stepsOn o l) (stepsOn o l)) (stepsOn o g)
@@ -79,7 +82,7 @@ module _ (t : Tables) (ok : given t ≡ true) (h h′ : List ℕ) (blank : FromB
   unfolding stepsOn
   steps-in-order on none same o =
       let members : (r : Request) → member (grantedOver t [] xs) r ≡ member (grantedOver t [] ys) r =
-              λ r. sym (granted-member t ok h xs r blank) ∙ same-members _ _ same r ∙ granted-member t ok h′ ys r blank′ in
+      λ r. sym (granted-member t ok h xs r blank) ∙ same-members _ _ same r ∙ granted-member t ok h′ ys r blank′ in
       ap (stepsOn o) (granted-reverse t ok h xs blank)
       ∙ steps-reversed o (grantedOver t [] xs) []
       ∙ ap reverse (same-order t on none xs ys members o)
@@ -89,7 +92,23 @@ module _ (t : Tables) (ok : given t ≡ true) (h h′ : List ℕ) (blank : FromB
   every-order : inForce t 1 ≡ false → inForce t 3 ≡ false → Perm xs ys → Throughout t h xs → Throughout t h′ ys
   every-order low pipe perm zeros n m =
       ∥∥₁-elim perm (ℕ-set n 0) (λ d.
-        granted-zeros t [] ys
-        (reordered t low pipe xs ys (perm-in d)
-        (zeros-granted t [] xs (λ k i. zeros k (rw (numbers-over t ok h xs blank) i)))) n
-        (rw (numbers-over t ok h′ ys blank′) at m))
+      granted-zeros t [] ys
+      (reordered t low pipe xs ys (perm-in d)
+      (zeros-granted t [] xs (λ k i. zeros k (rw (numbers-over t ok h xs blank) i)))) n
+      (rw (numbers-over t ok h′ ys blank′) at m))
+
+-- the agreement of every rulebook that loads
+pub agreement : Claim
+agreement book ok h h′ blank blank′ xs ys =
+    let t = loadBook book .tables in
+    let given-tables = loaded-given book ok in
+    record {
+      tables = loaded-holds book ok;
+      numbers = numbers-over t given-tables h xs blank;
+      histories = equal-histories t given-tables h h′ xs ys blank blank′;
+      future = same-future t given-tables h h′ xs ys blank blank′;
+      steps = λ on.
+          steps-in-order t given-tables h h′ blank blank′ xs ys on
+          (no-circle t (loaded-sets book ok) (loaded-no-circle book ok));
+      orders = every-order t given-tables h h′ blank blank′ xs ys;
+    }

@@ -29,7 +29,7 @@ permitted-passed t H r d p =
       walled = implies-intro _ _ (λ on. wall-published t H r .1 (p .wall on));
       levelled = implies-intro _ _ (λ on. low-water-published t H r .1 (p .lowWater on));
       covered = implies-intro _ _ (λ on. roles-published t H r .1 (p .roles on));
-      piped = implies-intro _ _ (λ on. pipeline-published t H r .1 (p .pipeline on))
+      piped = implies-intro _ _ (λ on. pipeline-published t H r .1 (p .pipeline on));
     }
 
 passed-permitted : (t : Tables) (H : Request → Bool) (r : Request) → Passed t H r → Permitted t H r
@@ -38,16 +38,17 @@ passed-permitted t H r p =
       wall = λ on. wall-published t H r .0 (implies-elim _ _ (p .walled) on);
       lowWater = λ on. low-water-published t H r .0 (implies-elim _ _ (p .levelled) on);
       roles = λ on. roles-published t H r .0 (implies-elim _ _ (p .covered) on);
-      pipeline = λ on. pipeline-published t H r .0 (implies-elim _ _ (p .piped) on)
+      pipeline = λ on. pipeline-published t H r .0 (implies-elim _ _ (p .piped) on);
     }
 
 pub grants : Grants
 grants t h bytes r ok size is parties =
     let same = judge-request t h bytes r ok size is in
     record {
-      exactly =
-          (λ e. passed-permitted t (setOf h) r (checks-passed t (setOf h) r (sym same ∙ e)),
-          λ p. same ∙ passed-checks t (setOf h) r (permitted-passed t (setOf h) r parties p));
+      exactly = (
+        λ e. passed-permitted t (setOf h) r (checks-passed t (setOf h) r (sym same ∙ e)),
+        λ p. same ∙ passed-checks t (setOf h) r (permitted-passed t (setOf h) r parties p),
+      );
       added = added t h bytes r size is parties;
-      otherwise = otherwise t h bytes r ok size is
+      otherwise = otherwise t h bytes r ok size is;
     }

@@ -27,7 +27,7 @@ use Rattle.policy.specs.Calls.{
   recordedIf,
   putHistory,
   putNumbers,
-  putHistories
+  putHistories,
 }
 use Rattle.policy.specs.Agreement.{FromBlank, answeredZero, granted, SameSet}
 use Rattle.policy.specs.Demands.{FirstRefusal}
@@ -110,8 +110,8 @@ module _ (t : Tables) (ok : given t ≡ true) where
           (record {
             sized = sized-recorded h r (s .sized);
             holds =
-            λ q. set-recorded h (s .sized .size) r q (declared-place t r (passed .parties))
-            ∙ ap (λ (b : Bool). same r q || b) (s .holds q) ∙ sym (member-more r q g)
+                λ q. set-recorded h (s .sized .size) r q (declared-place t r (passed .parties))
+                ∙ ap (λ (b : Bool). same r q || b) (s .holds q) ∙ sym (member-more r q g);
           })
 
   pub stands-puts : (h : List ℕ) (g : List Request) (calls : List (List ℕ)) → Stands h g
@@ -158,9 +158,10 @@ module _ (t : Tables) (ok : given t ≡ true) where
       → (putHistories t h xs ≡ putHistories t h′ ys) ↔ SameSet (granted t h xs) (granted t h′ ys)
   equal-histories h h′ xs ys b b′ =
       let x = stands-granted h xs b in
-      let y = stands-granted h′ ys b′ in
-      (λ e. members-same _ _ (λ r. sym (x .holds r) ∙ ap (λ (l : List ℕ). setOf l r) e ∙ y .holds r),
-      λ s. set-history _ _ (x .sized) (y .sized) (λ r. x .holds r ∙ same-members _ _ s r ∙ sym (y .holds r)))
+      let y = stands-granted h′ ys b′ in (
+        λ e. members-same _ _ (λ r. sym (x .holds r) ∙ ap (λ (l : List ℕ). setOf l r) e ∙ y .holds r),
+        λ s. set-history _ _ (x .sized) (y .sized) (λ r. x .holds r ∙ same-members _ _ s r ∙ sym (y .holds r)),
+      )
 
   -- the same set has the same future, because it has the same bytes
   pub same-future : (h h′ : List ℕ) (xs ys : List (List ℕ)) → FromBlank h → FromBlank h′

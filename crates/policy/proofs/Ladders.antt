@@ -48,7 +48,7 @@ ladder-zero (c ∷ cs) n e =
     let some : c .number ≢ 0 = eqb-false (c .number) 0 (not-true _ (and-left _ (numbered cs) n)) in
     ⊎-elim
     (λ t. permit-more t
-      (ladder-zero cs (and-right (not (eqb (c .number) 0)) (numbered cs) n) (sym (ladder-permits c cs t) ∙ e)))
+    (ladder-zero cs (and-right (not (eqb (c .number) 0)) (numbered cs) n) (sym (ladder-permits c cs t) ∙ e)))
     (λ f. absurd (some (sym (ladder-refuses c cs f) ∙ e)))
     (decide (c .permits))
 
@@ -78,7 +78,7 @@ first-later c cs n e f =
       split = ap (λ (l : List Check). c ∷ l) (f .split);
       permitted = permit-more e (f .permitted);
       refuses = f .refuses;
-      number = f .number
+      number = f .number;
     }
 
 pub ladder-first : (cs : List Check) → ladder cs ≢ 0 → FirstRefusal cs (ladder cs)

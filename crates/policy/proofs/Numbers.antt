@@ -19,7 +19,7 @@ use Rattle.policy.specs.Rulebook.{
   refusedBook,
   ended,
   loadFrom,
-  loadBook
+  loadBook,
 }
 use Rattle.policy.specs.Request.{Request, requestOf, setOf}
 use Rattle.policy.specs.Calls.{
@@ -28,7 +28,7 @@ use Rattle.policy.specs.Calls.{
   callChecks,
   judgeNumber,
   runNumber,
-  standingNumber
+  standingNumber,
 }
 use Rattle.policy.specs.Agreement.{_∈_}
 use Rattle.policy.specs.Demands.{Numbers}
@@ -54,18 +54,18 @@ bookNumbers = 0 ∷ 1 ∷ 2 ∷ 3 ∷ 4 ∷ 5 ∷ 6 ∷ 7 ∷ 8 ∷ 9 ∷ []
 -- what holds of every refusal, and of all tables with the number 0, holds of what a book comes to
 module _ (P : Loaded → Type 0) (refusal : (n at : ℕ) → n ∈ bookNumbers → P (refusedBook n at))
     (loaded : (at : ℕ) (t : Tables) → P (record { number = 0; offset = at; tables = t }))
-    where
-  pub load-cases : (n at : ℕ) (bytes : List ℕ) (t : Tables) → P (loadFrom n at bytes t)
-  unfolding loadFrom ended recordChecks endChecks
-  load-cases zero at bytes t = refusal 1 at (List·Memᴰ·tail (List·Memᴰ·head refl))
-  load-cases (suc n) at [] t = refusal 1 at (List·Memᴰ·tail (List·Memᴰ·head refl))
-  load-cases (suc n) at (kind ∷ body) t =
-      by-test P (eqb (ladder (recordChecks at t kind body)) 0) _ _
-      (λ e. by-test P (eqb kind 0) _ _
+  where
+    pub load-cases : (n at : ℕ) (bytes : List ℕ) (t : Tables) → P (loadFrom n at bytes t)
+    unfolding loadFrom ended recordChecks endChecks
+    load-cases zero at bytes t = refusal 1 at (List·Memᴰ·tail (List·Memᴰ·head refl))
+    load-cases (suc n) at [] t = refusal 1 at (List·Memᴰ·tail (List·Memᴰ·head refl))
+    load-cases (suc n) at (kind ∷ body) t =
+        by-test P (eqb (ladder (recordChecks at t kind body)) 0) _ _
+        (λ e. by-test P (eqb kind 0) _ _
         (λ e. by-test P (eqb (ladder (endChecks t)) 0) _ _ (λ e. loaded at t)
-          (λ f. refusal _ at (all-stand-in bookNumbers _ _ refl (ladder-member (endChecks t)))))
+        (λ f. refusal _ at (all-stand-in bookNumbers _ _ refl (ladder-member (endChecks t)))))
         (λ f. load-cases n (at + 1 + bodyLength kind) (drop (bodyLength kind) body) (declare t (recordOf kind body))))
-      (λ f. refusal _ at (all-stand-in bookNumbers _ _ refl (ladder-member (recordChecks at t kind body))))
+        (λ f. refusal _ at (all-stand-in bookNumbers _ _ refl (ladder-member (recordChecks at t kind body))))
 
 -- ---- every number
 
@@ -81,8 +81,8 @@ numbers =
     record {
       blank = λ h. ladder-member _;
       load =
-      λ book. load-cases (λ l. l .number ∈ bookNumbers) (λ n at i. i) (λ at t. List·Memᴰ·head refl) (length book) 0 book _;
+          λ book. load-cases (λ l. l .number ∈ bookNumbers) (λ n at i. i) (λ at t. List·Memᴰ·head refl) (length book) 0 book _;
       judge = λ t h bytes. judge-number t h (requestOf bytes);
       run = λ t h requests answers. ladder-member _;
-      standing = λ t h s. ladder-member _
+      standing = λ t h s. ladder-member _;
     }

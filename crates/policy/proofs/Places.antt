@@ -80,14 +80,16 @@ index-request n l =
     by-test (HasIndex n) (ltb n 8192) _ _
     (λ t. let a = ltb-true n 8192 t in (below-both (n / 128) 64 (n % 128) 128 (omega arith) (omega arith), omega arith))
     (λ f. let a = ltb-false n 8192 f in by-test (HasIndex n) (ltb n 16384) _ _
-      (λ t. let b = ltb-true n 16384 t in
-        (below-both ((n - 8192) / 128) 64 (n % 128) 128 (omega arith) (omega arith), omega arith))
-      (λ f. let b = ltb-false n 16384 f in by-test (HasIndex n) (ltb n 20480) _ _
-        (λ t. let c = ltb-true n 20480 t in
-          (below-both ((n - 16384) / 64) 64 (n % 64) 64 (omega arith) (omega arith), omega arith))
-        (λ f. let c = ltb-false n 20480 f in
-          (and-both _ _ (below-both (n % 64) 64 ((n - 20480) / 64 % 16) 16 (omega arith) (omega arith))
-          (lt-ltb ((n - 20480) / 64 / 16) 128 (omega arith)), omega arith))))
+    (λ t. let b = ltb-true n 16384 t in
+    (below-both ((n - 8192) / 128) 64 (n % 128) 128 (omega arith) (omega arith), omega arith))
+    (λ f. let b = ltb-false n 16384 f in by-test (HasIndex n) (ltb n 20480) _ _
+    (λ t. let c = ltb-true n 20480 t in
+    (below-both ((n - 16384) / 64) 64 (n % 64) 64 (omega arith) (omega arith), omega arith))
+    (λ f. let c = ltb-false n 20480 f in (
+      and-both _ _ (below-both (n % 64) 64 ((n - 20480) / 64 % 16) 16 (omega arith) (omega arith))
+          (lt-ltb ((n - 20480) / 64 / 16) 128 (omega arith)),
+      omega arith,
+    ))))
 
 -- ---- bits
 
@@ -98,6 +100,7 @@ bit-recorded h i j l = go (eqb (j / 8) (i / 8)) refl
   where
     byte : ℕ
     byte = withBit (getD h (i / 8) 0) (i % 8)
+
     go : (sameByte : Bool) → eqb (j / 8) (i / 8) ≡ sameByte
         → bit (getD (set h (i / 8) byte) (j / 8) 0) (j % 8) ≡ eqb j i || bit (getD h (j / 8) 0) (j % 8)
     go true e =
@@ -116,8 +119,8 @@ same-index : (r q : Request) → hasPlace r ≡ true → hasPlace q && eqb (inde
 same-index r q e =
     bool-ext _ _
     (λ a.
-      let i = eqb-true (index q) (index r) (and-right (hasPlace q) _ a) in
-      rw (index-injective q r (and-left (hasPlace q) _ a) e i) (same-refl r))
+    let i = eqb-true (index q) (index r) (and-right (hasPlace q) _ a) in
+    rw (index-injective q r (and-left (hasPlace q) _ a) e i) (same-refl r))
     (λ a. rw (← (same-eq r q a)) (and-both _ _ e (eq-eqb (index r) (index r) refl)))
 
 -- recording adds the request to the set, and nothing else
@@ -163,7 +166,7 @@ unfolding recorded withBitAt
 sized-recorded h r z =
     record {
       size = length-set h _ _ ∙ z .size;
-      bytes = set-bytes h _ _ (with-lt 8 _ (index r % 8) (z .bytes (index r / 8)) (omega arith)) (z .bytes)
+      bytes = set-bytes h _ _ (with-lt 8 _ (index r % 8) (z .bytes (index r / 8)) (omega arith)) (z .bytes);
     }
 
 and-cancel : (a b c : Bool) → a ≡ true → a && b ≡ a && c → b ≡ c
@@ -181,8 +184,8 @@ pub set-history : (h h′ : List ℕ) → Sized h → Sized h′ → ((r : Reque
 unfolding bitAt
 set-history h h′ z z′ e =
     ext-getD 0 h h′ (z .size ∙ sym (z′ .size)) (λ i l.
-      bits-ext 8 (getD h i 0) (getD h′ i 0) (z .bytes i) (z′ .bytes i) (λ j k.
-        let n = z .size in
-        let byte : (8 * i + j) / 8 ≡ i = omega arith in
-        let place : (8 * i + j) % 8 ≡ j = omega arith in
-        rw (byte, place) at (same-bits h h′ e (8 * i + j) (omega arith))))
+    bits-ext 8 (getD h i 0) (getD h′ i 0) (z .bytes i) (z′ .bytes i) (λ j k.
+    let n = z .size in
+    let byte : (8 * i + j) / 8 ≡ i = omega arith in
+    let place : (8 * i + j) % 8 ≡ j = omega arith in
+    rw (byte, place) at (same-bits h h′ e (8 * i + j) (omega arith))))

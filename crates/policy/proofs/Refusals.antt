@@ -28,7 +28,7 @@ use Rattle.policy.specs.Rulebook.{
   refusedBook,
   ended,
   loadFrom,
-  loadBook
+  loadBook,
 }
 use Rattle.policy.specs.Calls.{restOf, recordedIf, judgeNumber, putHistory, runNumber, runHistory, runAnswers}
 use Rattle.policy.specs.Demands.{Refusals}
@@ -37,8 +37,8 @@ use Rattle.policy.proofs.Numbers.{load-cases}
 -- the empty book loads, to its tables
 empty-book : loadBook (1 ∷ 0 ∷ 0 ∷ []) .tables ≡ emptyTables
 unfolding
-  bit withBit anyBelow ladder emptyTables enables bodyLength recordOf inRange declaredBefore firmStands entersCreate recordChecks declare
-  reaches hasCircle isLoose hasLoose endChecks refusedBook ended loadFrom loadBook
+    bit withBit anyBelow ladder emptyTables enables bodyLength recordOf inRange declaredBefore firmStands entersCreate recordChecks declare
+    reaches hasCircle isLoose hasLoose endChecks refusedBook ended loadFrom loadBook
 empty-book = refl
 
 pub refused-tables : (book : List ℕ) → loadBook book .number ≢ 0 → loadBook book .tables ≡ emptyTables
@@ -57,8 +57,8 @@ refusals =
     record {
       put = put-refused;
       run =
-      λ t h requests answers n.
-      let e = ne-eqb (runNumber t h requests answers) 0 n in
-      (rw e, rw e);
-      load = λ book n. (refused-tables book n ∙ sym empty-book, rw (ne-eqb (loadBook book .number) 0 n))
+          λ t h requests answers n.
+          let e = ne-eqb (runNumber t h requests answers) 0 n in
+          (rw e, rw e);
+      load = λ book n. (refused-tables book n ∙ sym empty-book, rw (ne-eqb (loadBook book .number) 0 n));
     }

@@ -2,15 +2,15 @@
 -- and a declared request has numbers that its history has a place for.
 use Prim.Native.Nat.{ℕ, _≤_, _<_}
 use native.Mathlib.Omega.{arith}
-use mathlib.Core.Path.{_≡_, refl, sym, ap₂}
+use mathlib.Core.Path.{_≡_, refl, sym, ap, ap₂}
 use mathlib.Core.Logic.{_⊎_, inl, inr, ⊎-elim, _↔_}
 use mathlib.Core.Bool.{Bool, true, false, _&&_, _||_, false≢true}
 use mathlib.Core.List.{List, [], _∷_, List·Memᴰ·head, List·Memᴰ·tail, List·Memᴰ·not-nil, List·Memᴰ·cases-cons}
 use lib.Dec.{eqb, leb, ltb}
-use borrow.Author.Tests.{eqb-true, eq-eqb, ltb-true, lt-ltb, leb-true}
+use borrow.Author.Tests.{eqb-true, eq-eqb, ltb-true, lt-ltb, leb-true, le-leb}
 use Rattle.bits.proofs.Booleans.{and-left, and-right, and-both, or-cases, or-left, or-right}
 use Rattle.policy.specs.declared.Tables.{Tables}
-use Rattle.policy.specs.Tables.{personDeclared, folderDeclared, roleDeclared}
+use Rattle.policy.specs.Tables.{personAt, personDeclared, folderDeclared, roleDeclared}
 use Rattle.policy.specs.Request.{Request, read, write, start, step, same, member, hasPlace}
 use Rattle.policy.specs.Rules.{declared}
 use Rattle.policy.specs.Agreement.{_∈_}
@@ -94,6 +94,11 @@ module _ (t : Tables) where
   unfolding personDeclared
   person-below s d = ltb-true s 64 (and-left (ltb s 64) _ d)
 
+  -- below the range, a person is declared exactly where the entry is marked so
+  pub declared-entry : (s : ℕ) → s < 64 → personDeclared t s ≡ personAt t s .declared
+  unfolding personDeclared
+  declared-entry s l = ap (λ (b : Bool). b && personAt t s .declared) (lt-ltb s 64 l)
+
   pub folder-below : (o : ℕ) → folderDeclared t o ≡ true → o < 128
   unfolding folderDeclared
   folder-below o d = ltb-true o 128 (and-left (ltb o 128) _ d)
@@ -114,6 +119,10 @@ module _ (t : Tables) where
   pub declared-folder : (s p o : ℕ) → declared t (step s p o) ≡ true → folderDeclared t o ≡ true
   unfolding declared
   declared-folder s p o d = and-right (personDeclared t s && leb p 15) _ d
+
+  pub step-declared : (s p o : ℕ) → personDeclared t s ≡ true → p < 16 → folderDeclared t o ≡ true → declared t (step s p o) ≡ true
+  unfolding declared
+  step-declared s p o d l f = and-both _ _ (and-both _ _ d (le-leb p 15 (omega arith))) f
 
   -- a declared request has a place in the history
   pub declared-place : (r : Request) → declared t r ≡ true → hasPlace r ≡ true

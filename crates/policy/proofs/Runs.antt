@@ -29,7 +29,7 @@ use Rattle.policy.specs.Calls.{
   runNumber,
   ran,
   runHistory,
-  runAnswers
+  runAnswers,
 }
 use Rattle.policy.specs.Demands.{Turns, Runs}
 use Rattle.policy.proofs.Ladders.{permit-none, permit-more, permit-first, permit-rest, ladder-zero, zero-ladder}
@@ -84,15 +84,18 @@ run-zero : (t : Tables) (h requests answers : List ℕ)
     → (runNumber t h requests answers ≡ 0)
     ↔ ((length h ≡ historyBytes) × (given t ≡ true) × (length (callsOf requests) ≤ length answers))
 unfolding runNumber callChecks answersDue
-run-zero t h requests answers =
-    (λ e.
-      let all = ladder-zero _ refl e in
-      (eqb-true (length h) historyBytes (permit-first all), permit-first (permit-rest all),
-      leb-true (length (callsOf requests)) (length answers) (permit-first (permit-rest (permit-rest all)))),
-    λ w.
-    zero-ladder _
-    (permit-more (eq-eqb (length h) historyBytes (w .0))
-      (permit-more (w .1) (permit-more (le-leb (length (callsOf requests)) (length answers) (w .2)) permit-none))))
+run-zero t h requests answers = (
+  λ e.
+      let all = ladder-zero _ refl e in (
+        eqb-true (length h) historyBytes (permit-first all),
+        permit-first (permit-rest all),
+        leb-true (length (callsOf requests)) (length answers) (permit-first (permit-rest (permit-rest all))),
+      ),
+  λ w.
+      zero-ladder _
+      (permit-more (eq-eqb (length h) historyBytes (w .0))
+      (permit-more (w .1) (permit-more (le-leb (length (callsOf requests)) (length answers) (w .2)) permit-none))),
+)
 
 pub runs : Runs
 unfolding callsOf answersDue runHistory runAnswers ran
@@ -104,5 +107,5 @@ runs t h requests answers =
       written = λ e. rw e;
       granted = λ e. rw e;
       refused = λ e. rw e;
-      together = λ e. rw e (counted-once (putNumbers t h (callsOf requests)) ∙ numbers-length t h (callsOf requests))
+      together = λ e. rw e (counted-once (putNumbers t h (callsOf requests)) ∙ numbers-length t h (callsOf requests));
     }

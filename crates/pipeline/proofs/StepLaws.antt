@@ -1,0 +1,173 @@
+-- The bits of eight bytes from a place on are the 64 bits that a history has there, so the sets that the code gathers are those of the
+-- definitions: the declared persons who did a step, the steps done on a folder, and the steps that lead to another.
+use Prim.Native.Nat.{ℕ, zero, suc, _+_, _-_, _*_, _/_, _%_, _^_, _≤_, _<_}
+use native.Mathlib.Nat.{lt-of-le-of-lt}
+use native.Mathlib.Omega.{arith}
+use mathlib.Core.Path.{_≡_, refl, sym, ap, ap₂, _∙_}
+use mathlib.Core.Logic.{⊎-elim, _≢_}
+use mathlib.Core.Bool.{Bool, true, false, cond, not, _&&_, Bool·not-not, and-comm}
+use mathlib.Core.List.{List, [], _∷_}
+use lib.Dec.{eqb, ltb}
+use lib.Bits.{bitAnd, and-le-r}
+use lib.ListN.{length, getD}
+use borrow.Author.Tests.{ltb-true, ltb-false}
+use Rattle.bits.specs.Bits.{bit, maskBelow}
+use Rattle.bits.specs.Bounded.{anyBelow}
+use Rattle.bits.proofs.Booleans.{and-left, and-right, and-both, bool-ext, decide}
+use Rattle.bits.proofs.Bounds.{any-ext}
+use Rattle.bits.proofs.BitLaws.{bit-and, bit-zero, bit-above}
+use Rattle.bits.proofs.Masks.{mask-lt, mask-ext, bit-mask-below, empty-none}
+use Rattle.policy.specs.declared.Tables.{Tables}
+use Rattle.policy.specs.Tables.{enabledBy, enables, personDeclared, folderDeclared}
+use Rattle.policy.specs.Rulebook.{littleEndian}
+use Rattle.policy.specs.History.{bitAt}
+use Rattle.policy.specs.Request.{Request, step, index, hasPlace, setOf}
+use Rattle.policy.specs.Rules.{did, done, leadsTo, pipelineStep}
+use Rattle.policy.proofs.Requests.{declared-person, step-declared, declared-place}
+use Rattle.pipeline.specs.Steps.{halfAt, wordAt, doneBy, leads, leadsAmong}
+
+-- ---- bytes
+
+-- the bits of little-endian bytes are those of the bytes
+little-bit : (l : List ℕ) → ((i : ℕ) → getD l i 0 < 256) → (s : ℕ) → bit (littleEndian l) s ≡ bit (getD l (s / 8) 0) (s % 8)
+unfolding littleEndian
+little-bit [] small s = bit-zero s ∙ sym (bit-zero (s % 8))
+little-bit (b ∷ l) small s =
+    bit-above 8 b (littleEndian l) s (small 0)
+    ∙ ⊎-elim
+    (λ y.
+    let i = ltb-true s 8 y in
+    let first : s / 8 ≡ 0 = omega arith in
+    let whole : s % 8 ≡ s = omega arith in
+    rw (y, first, whole))
+    (λ n.
+    let i = ltb-false s 8 n in
+    let next : s / 8 ≡ suc ((s - 8) / 8) = omega arith in
+    let rest : (s - 8) % 8 ≡ s % 8 = omega arith in
+    rw (n, next) (little-bit l (λ k. small (suc k)) (s - 8) ∙ ap (bit (getD l ((s - 8) / 8) 0)) rest))
+    (decide (ltb s 8))
+
+eightAt : List ℕ → ℕ → List ℕ
+eightAt h at =
+    getD h at 0
+    ∷ getD h (at + 1) 0
+    ∷ getD h (at + 2) 0
+    ∷ getD h (at + 3) 0
+    ∷ getD h (at + 4) 0
+    ∷ getD h (at + 5) 0
+    ∷ getD h (at + 6) 0
+    ∷ getD h (at + 7) 0
+    ∷ []
+
+word-little : (h : List ℕ) (at : ℕ) → wordAt h at ≡ littleEndian (eightAt h at)
+unfolding wordAt halfAt littleEndian eightAt
+word-little h at =
+    let five : getD h (at + 4 + 1) 0 ≡ getD h (at + 5) 0 = ap (λ (i : ℕ). getD h i 0) (omega arith) in
+    let six : getD h (at + 4 + 2) 0 ≡ getD h (at + 6) 0 = ap (λ (i : ℕ). getD h i 0) (omega arith) in
+    let seven : getD h (at + 4 + 3) 0 ≡ getD h (at + 7) 0 = ap (λ (i : ℕ). getD h i 0) (omega arith) in
+    omega arith
+
+eight-at : (h : List ℕ) (at j : ℕ) → j < 8 → getD (eightAt h at) j 0 ≡ getD h (at + j) 0
+unfolding eightAt
+eight-at h at zero l = ap (λ (i : ℕ). getD h i 0) (omega arith)
+eight-at h at (suc zero) l = refl
+eight-at h at (suc (suc zero)) l = refl
+eight-at h at (suc (suc (suc zero))) l = refl
+eight-at h at (suc (suc (suc (suc zero)))) l = refl
+eight-at h at (suc (suc (suc (suc (suc zero))))) l = refl
+eight-at h at (suc (suc (suc (suc (suc (suc zero)))))) l = refl
+eight-at h at (suc (suc (suc (suc (suc (suc (suc zero))))))) l = refl
+eight-at h at (suc (suc (suc (suc (suc (suc (suc (suc j)))))))) l = let z : ⊥ = omega arith in absurd z
+
+eight-small : (h : List ℕ) (at : ℕ) → ((i : ℕ) → getD h i 0 < 256) → (j : ℕ) → getD (eightAt h at) j 0 < 256
+eight-small h at small j =
+    ⊎-elim (λ y. rw (eight-at h at j (ltb-true j 8 y)) (small (at + j)))
+    (λ n. rw (past j (ltb-false j 8 n)) (omega arith))
+    (decide (ltb j 8))
+  where
+    past : (j : ℕ) → 8 ≤ j → getD (eightAt h at) j 0 ≡ 0
+    past j l = lib.ListN.List·getD-eq-default (eightAt h at) 0 {n = j} (unfold eightAt in l)
+
+word-bit : (h : List ℕ) (at s : ℕ) → ((i : ℕ) → getD h i 0 < 256) → s < 64
+    → bit (wordAt h at) s ≡ bit (getD h (at + s / 8) 0) (s % 8)
+word-bit h at s small l =
+    ap (λ (n : ℕ). bit n s) (word-little h at)
+    ∙ little-bit (eightAt h at) (eight-small h at small) s
+    ∙ ap (λ (b : ℕ). bit b (s % 8)) (eight-at h at (s / 8) (omega arith))
+
+-- ---- the steps done
+
+module _ (t : Tables) (h : List ℕ) (small : (i : ℕ) → getD h i 0 < 256) (o : ℕ) (known : folderDeclared t o ≡ true) where
+  -- the bits at a step's place are those of its requests
+  place-bit : (p s : ℕ) → s < 64 → bit (wordAt h (2560 + 128 * o + 8 * p)) s ≡ bitAt h (index (step s p o))
+  unfolding bitAt index
+  place-bit p s l =
+      let byte : 2560 + 128 * o + 8 * p + s / 8 ≡ (20480 + 64 * (16 * o + p) + s) / 8 = omega arith in
+      let digit : s % 8 ≡ (20480 + 64 * (16 * o + p) + s) % 8 = omega arith in
+      word-bit h (2560 + 128 * o + 8 * p) s small l ∙ ap₂ (λ (i j : ℕ). bit (getD h i 0) j) byte digit
+
+  did-bit : (p s : ℕ) → p < 16 → s < 64
+      → bitAt h (index (step s p o)) && personDeclared t s ≡ did t (setOf h) (step s p o)
+  unfolding did setOf
+  did-bit p s lp ls =
+      bool-ext _ _
+      (λ e.
+      let d = step-declared t s p o (and-right (bitAt h (index (step s p o))) _ e) lp known in
+      and-both _ _ (and-both _ _ (declared-place t (step s p o) d) (and-left (bitAt h (index (step s p o))) _ e)) d)
+      (λ e.
+      let d = and-right (hasPlace (step s p o) && bitAt h (index (step s p o))) _ e in
+      let b = and-right (hasPlace (step s p o)) _ (and-left (hasPlace (step s p o) && bitAt h (index (step s p o))) _ e) in
+      and-both _ _ b (declared-person t s p o d))
+
+  done-by : (p : ℕ) → p < 16 → doneBy h (maskBelow 64 (personDeclared t)) o p ≡ done t (setOf h) o p
+  unfolding doneBy done
+  done-by p l =
+      let persons = maskBelow 64 (personDeclared t) in
+      let word = wordAt h (2560 + 128 * o + 8 * p) in
+      ap not (empty-none 64 (bitAnd word persons) (lt-of-le-of-lt (and-le-r word persons) (mask-lt 64 (personDeclared t))))
+      ∙ Bool·not-not (anyBelow 64 (bit (bitAnd word persons)))
+      ∙ any-ext 64 (bit (bitAnd word persons)) (λ s. did t (setOf h) (step s p o)) (λ s ls.
+      bit-and word persons s ∙ ap₂ _&&_ (place-bit p s ls) (bit-mask-below 64 (personDeclared t) s ls) ∙ did-bit p s l ls)
+
+  -- the set that the code gathers from the declared persons is that of the steps done
+  pub done-set : (persons steps : ℕ) → persons ≡ maskBelow 64 (personDeclared t) → steps ≡ maskBelow 16 (doneBy h persons o)
+      → steps ≡ maskBelow 16 (done t (setOf h) o)
+  done-set persons steps e f =
+      f ∙ ap (λ (n : ℕ). maskBelow 16 (doneBy h n o)) e ∙ mask-ext 16 (doneBy h (maskBelow 64 (personDeclared t)) o) (done t (setOf h) o) done-by
+
+-- ---- the step rule
+
+module _ (t : Tables) (H : Request → Bool) (o : ℕ) where
+  -- no step of the set is done: the set has none in common with those done
+  disjoint : (enabled : ℕ)
+      → eqb (bitAnd enabled (maskBelow 16 (done t H o))) 0 ≡ not (anyBelow 16 (λ d. done t H o d && bit enabled d))
+  disjoint enabled =
+      let steps = maskBelow 16 (done t H o) in
+      empty-none 16 (bitAnd enabled steps) (lt-of-le-of-lt (and-le-r enabled steps) (mask-lt 16 (done t H o)))
+      ∙ ap not
+      (any-ext 16 (bit (bitAnd enabled steps)) (λ d. done t H o d && bit enabled d) (λ d l.
+      bit-and enabled steps d ∙ ap (λ (b : Bool). bit enabled d && b) (bit-mask-below 16 (done t H o) d l) ∙ and-comm (bit enabled d) (done t H o d)))
+
+  leads-is : (q p : ℕ) → p < 16 → q < 16 → leadsAmong (t .steps) (maskBelow 16 (done t H o)) q p ≡ leadsTo t H o q p
+  unfolding leadsAmong leads leadsTo enables
+  leads-is q p lp lq =
+      let own : p % 16 ≡ p = omega arith in
+      let next : q % 16 ≡ q = omega arith in
+      rw (own, next, bit-mask-below 16 (done t H o) p lp, disjoint (enabledBy t p))
+
+  -- the rule, from the set of the steps done
+  pub led-to : (steps q : ℕ) → steps ≡ maskBelow 16 (done t H o) → q ≢ 0 → q < 16
+      → anyBelow 16 (leadsAmong (t .steps) steps q) ≡ pipelineStep t H q o
+  unfolding pipelineStep
+  led-to steps zero e n l = absurd (n refl)
+  led-to steps (suc q) e n l =
+      ap (λ (d : ℕ). anyBelow 16 (leadsAmong (t .steps) d (suc q))) e
+      ∙ any-ext 16 (leadsAmong (t .steps) (maskBelow 16 (done t H o)) (suc q)) (leadsTo t H o (suc q)) (λ p i. leads-is (suc q) p i l)
+
+  pub none-done : (steps q : ℕ) → steps ≡ maskBelow 16 (done t H o) → q ≡ 0 → eqb steps 0 ≡ pipelineStep t H q o
+  unfolding pipelineStep
+  none-done steps q e z =
+      ap (λ (d : ℕ). eqb d 0) e
+      ∙ empty-none 16 (maskBelow 16 (done t H o)) (mask-lt 16 (done t H o))
+      ∙ ap not (any-ext 16 (bit (maskBelow 16 (done t H o))) (done t H o) (bit-mask-below 16 (done t H o)))
+      ∙ ap (λ (n : ℕ). pipelineStep t H n o) (sym z)

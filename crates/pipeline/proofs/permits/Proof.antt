@@ -1,0 +1,43 @@
+use mathlib.Core.Path.{_∙_}
+use Rattle.policy.proofs.Requests.{folder-below}
+use Rattle.pipeline.proofs.StepLaws.{done-set, led-to, none-done}
+use borrow.Author.Needs.{needs}
+use Rattle.pipeline.proofs.permits.Statement.{statement}
+use Rattle.pipeline.proofs.permits.Tie as tie
+use Rattle.pipeline.proofs.permits.Reads as reads
+use Rattle.pipeline.proofs.permits.Lts as lts
+use Rattle.pipeline.proofs.declared_persons.Reads as declared-persons-reads
+use Rattle.pipeline.proofs.is_led_to.Reads as is-led-to-reads
+use Rattle.pipeline.proofs.steps_done.Reads as steps-done-reads
+
+declared-persons-requires : tie.Need-declared-persons-requires
+declared-persons-requires c κs = search needs
+
+steps-done-requires : tie.Need-steps-done-requires
+steps-done-requires c κs = (c .before .before .pre .0, folder-below _ _ (c .before .before .pre .1))
+
+returns : tie.Need-returns
+returns c =
+    none-done _ _ _ (c .before .steps-done .result) _
+    (done-set _ _ (λ i. c .before .before .before .shared-slice-known .given i .fits) _ (c .before .before .before .before .pre .1)
+    (c .before .before .declared-persons .result) (c .before .steps-done .result) (c .before .before .declared-persons .ensures)
+    (c .before .steps-done .ensures))
+    (c .if1 .taken)
+
+is-led-to-requires : tie.Need-is-led-to-requires
+is-led-to-requires c κs = search needs
+
+returns-2 : tie.Need-returns-2
+returns-2 c =
+    c .is-led-to .ensures
+    ∙ led-to _ _ _ (c .before .before .before .before .steps-done .result) _
+    (done-set _ _ (λ i. c .before .before .before .before .before .before .shared-slice-known .given i .fits) _
+    (c .before .before .before .before .before .before .before .pre .1)
+    (c .before .before .before .before .before .declared-persons .result) (c .before .before .before .before .steps-done .result)
+    (c .before .before .before .before .before .declared-persons .ensures) (c .before .before .before .before .steps-done .ensures))
+    (c .before .before .before .if1 .left) (c .before .before .before .before .before .before .before .pre .2)
+
+pub permits-spec : {M : Type 1} → statement M
+permits-spec =
+    tie.close
+    (tie.spec declared-persons-requires steps-done-requires returns is-led-to-requires returns-2)

@@ -1,0 +1,18 @@
+use borrow.Author.Needs.{needs}
+use Rattle.pipeline.proofs.with_person.Statement.{statement}
+use Rattle.pipeline.proofs.with_person.Tie as tie
+use Rattle.pipeline.proofs.with_person.Reads as reads
+use Rattle.pipeline.proofs.with_person.Lts as lts
+use Rattle.bits.proofs.with_bit64.Reads as with-bit64-reads
+
+with-bit64-requires : tie.Need-with-bit64-requires
+with-bit64-requires c κs = search needs
+
+returns : tie.Need-returns
+returns c = rw (c .before .if1 .taken) (c .with-bit64 .ensures)
+
+returns-2 : tie.Need-returns-2
+returns-2 c = search needs
+
+pub with-person-spec : {M : Type 1} → statement M
+with-person-spec = tie.close (tie.spec with-bit64-requires returns returns-2)

@@ -1,0 +1,26 @@
+-- What the functions of this crate compute from bytes and sets: the steps done on a folder, and the steps that lead to another.
+use Prim.Native.Nat.{ℕ, _+_, _*_, _%_}
+use mathlib.Core.Bool.{Bool, not, _&&_}
+use mathlib.Core.List.{List}
+use lib.Dec.{eqb}
+use lib.Bits.{bitAnd}
+use lib.ListN.{getD}
+use Rattle.bits.specs.Bits.{bit}
+
+-- the 32 bits of the four bytes from a place on, and the 64 bits of the eight bytes
+unfoldable pub halfAt : List ℕ → ℕ → ℕ
+halfAt h at = getD h at 0 + 256 * (getD h (at + 1) 0 + 256 * (getD h (at + 2) 0 + 256 * getD h (at + 3) 0))
+
+unfoldable pub wordAt : List ℕ → ℕ → ℕ
+wordAt h at = halfAt h at + 4294967296 * halfAt h (at + 4)
+
+-- some person of the set did step p on folder o
+unfoldable pub doneBy : List ℕ → ℕ → ℕ → ℕ → Bool
+doneBy h persons o p = not (eqb (bitAnd (wordAt h (2560 + 128 * o + 8 * p)) persons) 0)
+
+-- step p, which enables a set of steps, is in the set of those done, enables q, and enables none of those done
+unfoldable pub leads : ℕ → ℕ → ℕ → ℕ → Bool
+leads enabled done p q = bit done (p % 16) && bit enabled (q % 16) && eqb (bitAnd enabled done) 0
+
+unfoldable pub leadsAmong : List ℕ → ℕ → ℕ → ℕ → Bool
+leadsAmong steps done q p = leads (getD steps p 0) done p q

@@ -1,0 +1,301 @@
+-- The parts of the tables: firms, persons, folders, roles and pairs. A record that passes its checks gives one entry of its part, which
+-- was not declared before, and leaves every other entry as it was; by the laws of arrays and of bits.
+use Prim.Native.Nat.{ℕ, _<_}
+use native.Mathlib.Omega.{arith}
+use mathlib.Core.Path.{_≡_, refl, sym, ap, _∙_}
+use mathlib.Core.Logic.{_⊎_, inl, inr, ⊎-elim, _≢_}
+use mathlib.Core.Bool.{Bool, true, false, _&&_, false≢true}
+use lib.Dec.{eqb, leb, ltb}
+use lib.Seq.{getD-set-same, getD-set-other}
+use borrow.Author.Tests.{leb-true, lt-ltb, ne-eqb, eqb-true, eqb-false, eq-eqb}
+use Rattle.bits.specs.Bits.{bit, withBit}
+use Rattle.bits.proofs.Booleans.{and-left, and-right, and-both, or-left, decide, false-elim}
+use Rattle.bits.proofs.BitLaws.{bit-with}
+use Rattle.policy.specs.declared.Firm.{Firm}
+use Rattle.policy.specs.declared.Person.{Person}
+use Rattle.policy.specs.declared.Folder.{Folder}
+use Rattle.policy.specs.declared.Role.{Role}
+use Rattle.policy.specs.declared.Tables.{Tables}
+use Rattle.policy.specs.Tables.{
+  noFirm,
+  noPerson,
+  noFolder,
+  noRole,
+  firmAt,
+  personAt,
+  folderAt,
+  roleAt,
+  enabledBy,
+  enables,
+  firmDeclared,
+  personDeclared,
+  folderDeclared,
+  roleDeclared,
+}
+use Rattle.policy.specs.Rulebook.{
+  Record,
+  end,
+  rules,
+  firm,
+  person,
+  folder,
+  role,
+  pair,
+  inRange,
+  declaredBefore,
+  declare,
+}
+use Rattle.policy.proofs.Declaring.{Passes}
+use Rattle.policy.proofs.Sound.{set-keeps, Sound}
+use Rattle.policy.proofs.Loads.{AnyWidth}
+
+-- ---- a part of the tables: the entries that the records of one kind give
+
+pub record Part : Type 1 where
+  pub Index : Type 0
+  pub Value : Type 0
+  pub Entry : Type 0
+  pub records : Index → Value → Record
+  pub value : Value → Entry
+  pub entry : Tables → Index → Entry
+  pub isDeclared : Entry → Bool
+  pub marked : (v : Value) → isDeclared (value v) ≡ true
+  pub fresh : (t : Tables) (i : Index) (v : Value) → Passes t (records i v) → isDeclared (entry t i) ≡ false
+  pub given :
+      (t : Tables) (i : Index) (v : Value) → Sound AnyWidth t → Passes t (records i v)
+      → entry (declare t (records i v)) i ≡ value v
+  pub left : (t : Tables) (r : Record) (i : Index) → ((v : Value) → r ≡ records i v → ⊥) → entry (declare t r) i ≡ entry t i
+
+-- ---- a record leaves the entries that it does not give
+
+pub firm-left : (t : Tables) (r : Record) (i : ℕ) → ((class : ℕ) → r ≡ firm i class → ⊥) → firmAt (declare t r) i ≡ firmAt t i
+unfolding declare
+firm-left t end i h = refl
+firm-left t (rules m) i h = refl
+firm-left t (firm f class) i h = getD-set-other (t .firms) f i _ noFirm (λ e. h class (rw e))
+firm-left t (person s level) i h = refl
+firm-left t (folder o f kind level) i h = refl
+firm-left t (role k rights) i h = refl
+firm-left t (pair p q) i h = refl
+
+pub person-left : (t : Tables) (r : Record) (i : ℕ) → ((level : ℕ) → r ≡ person i level → ⊥) → personAt (declare t r) i ≡ personAt t i
+unfolding declare
+person-left t end i h = refl
+person-left t (rules m) i h = refl
+person-left t (firm f class) i h = refl
+person-left t (person s level) i h = getD-set-other (t .persons) s i _ noPerson (λ e. h level (rw e))
+person-left t (folder o f kind level) i h = refl
+person-left t (role k rights) i h = refl
+person-left t (pair p q) i h = refl
+
+pub folder-left : (t : Tables) (r : Record) (i : ℕ) → ((f kind level : ℕ) → r ≡ folder i f kind level → ⊥)
+    → folderAt (declare t r) i ≡ folderAt t i
+unfolding declare
+folder-left t end i h = refl
+folder-left t (rules m) i h = refl
+folder-left t (firm f class) i h = refl
+folder-left t (person s level) i h = refl
+folder-left t (folder o f kind level) i h = getD-set-other (t .folders) o i _ noFolder (λ e. h f kind level (rw e))
+folder-left t (role k rights) i h = refl
+folder-left t (pair p q) i h = refl
+
+pub role-left : (t : Tables) (r : Record) (i : ℕ) → ((rights : ℕ) → r ≡ role i rights → ⊥) → roleAt (declare t r) i ≡ roleAt t i
+unfolding declare
+role-left t end i h = refl
+role-left t (rules m) i h = refl
+role-left t (firm f class) i h = refl
+role-left t (person s level) i h = refl
+role-left t (folder o f kind level) i h = refl
+role-left t (role k rights) i h = getD-set-other (t .roles) k i _ noRole (λ e. h rights (rw e))
+role-left t (pair p q) i h = refl
+
+-- a pair changes one set, and puts one member into it
+pub pair-left : (t : Tables) (r : Record) (p q : ℕ) → (r ≡ pair p q → ⊥) → enables (declare t r) p q ≡ enables t p q
+unfolding declare enables
+pair-left t end p q h = refl
+pair-left t (rules m) p q h = refl
+pair-left t (firm f class) p q h = refl
+pair-left t (person s level) p q h = refl
+pair-left t (folder o f kind level) p q h = refl
+pair-left t (role k rights) p q h = refl
+pair-left t (pair a b) p q h =
+    ⊎-elim
+    (λ same.
+    let e : p ≡ a = eqb-true p a same in
+    let new : bit (withBit (enabledBy t a) b) q ≡ bit (enabledBy t p) q =
+    bit-with (enabledBy t a) b q ∙ rw (ne-eqb q b (λ f. h (cc)), e) in
+    set-keeps (λ (x : ℕ). bit x q ≡ bit (enabledBy t p) q) 0 (t .steps) a (withBit (enabledBy t a) b) new p refl)
+    (λ other. ap (λ (x : ℕ). bit x q) (getD-set-other (t .steps) a p _ 0 (eqb-false p a other)))
+    (decide (eqb p a))
+
+pub pair-cases : (t : Tables) (r : Record) (p q : ℕ) → enables (declare t r) p q ≡ true → (r ≡ pair p q) ⊎ (enables t p q ≡ true)
+unfolding declare enables
+pair-cases t end p q h = inr h
+pair-cases t (rules m) p q h = inr h
+pair-cases t (firm f class) p q h = inr h
+pair-cases t (person s level) p q h = inr h
+pair-cases t (folder o f kind level) p q h = inr h
+pair-cases t (role k rights) p q h = inr h
+pair-cases t (pair a b) p q h =
+    ⊎-elim (λ e. let f = eqb-true a p (and-left (eqb a p) _ e) in let g = eqb-true b q (and-right (eqb a p) _ e) in inl (cc))
+    (λ e.
+    let other : pair a b ≡ pair p q → ⊥ = λ f. false-elim _ e (and-both _ _ (eq-eqb a p (cc)) (eq-eqb b q (cc))) in
+    inr (sym (pair-left t (pair a b) p q other) ∙ h))
+    (decide (eqb a p && eqb b q))
+
+-- ---- a record gives its entry, which was not declared before
+
+now-second : (a b : Bool) → a ≡ true → a && b ≡ false → b ≡ false
+now-second true b e h = h
+now-second false b e h = absurd (false≢true e)
+
+module _ (t : Tables) where
+  firm-below : (f class : ℕ) → Passes t (firm f class) → f < 64
+  unfolding inRange
+  firm-below f class p = let l = leb-true f 63 (and-left (leb f 63) _ (p .range)) in omega arith
+
+  person-below : (s level : ℕ) → Passes t (person s level) → s < 64
+  unfolding inRange
+  person-below s level p = let l = leb-true s 63 (p .range) in omega arith
+
+  folder-below : (o f kind level : ℕ) → Passes t (folder o f kind level) → o < 128
+  unfolding inRange
+  folder-below o f kind level p =
+      let l = leb-true o 127 (and-left (leb o 127) _ (and-left (leb o 127 && leb f 63) _ (p .range))) in omega arith
+
+  role-below : (k rights : ℕ) → Passes t (role k rights) → k < 32
+  unfolding inRange
+  role-below k rights p = let l = leb-true k 31 (p .range) in omega arith
+
+  pair-below : (p q : ℕ) → Passes t (pair p q) → p < 16
+  unfolding inRange
+  pair-below p q h = let l = leb-true p 15 (and-left (leb p 15) _ (h .range)) in omega arith
+
+  pub firm-fresh : (f class : ℕ) → Passes t (firm f class) → firmAt t f .declared ≡ false
+  unfolding declaredBefore firmDeclared
+  firm-fresh f class p = now-second (ltb f 64) _ (lt-ltb f 64 (firm-below f class p)) (p .fresh)
+
+  pub person-fresh : (s level : ℕ) → Passes t (person s level) → personAt t s .declared ≡ false
+  unfolding declaredBefore personDeclared
+  person-fresh s level p = now-second (ltb s 64) _ (lt-ltb s 64 (person-below s level p)) (p .fresh)
+
+  pub folder-fresh : (o f kind level : ℕ) → Passes t (folder o f kind level) → folderAt t o .declared ≡ false
+  unfolding declaredBefore folderDeclared
+  folder-fresh o f kind level p = now-second (ltb o 128) _ (lt-ltb o 128 (folder-below o f kind level p)) (p .fresh)
+
+  pub role-fresh : (k rights : ℕ) → Passes t (role k rights) → roleAt t k .declared ≡ false
+  unfolding declaredBefore roleDeclared
+  role-fresh k rights p = now-second (ltb k 32) _ (lt-ltb k 32 (role-below k rights p)) (p .fresh)
+
+  pub pair-fresh : (p q : ℕ) → Passes t (pair p q) → enables t p q ≡ false
+  unfolding declaredBefore
+  pair-fresh p q h = h .fresh
+
+  pub firm-given : (f class : ℕ) → Sound AnyWidth t → Passes t (firm f class)
+      → firmAt (declare t (firm f class)) f ≡ record { declared = true; class = class }
+  unfolding declare
+  firm-given f class s p = getD-set-same (t .firms) f _ noFirm (rw (s .firms .size) (firm-below f class p))
+
+  pub person-given : (n level : ℕ) → Sound AnyWidth t → Passes t (person n level)
+      → personAt (declare t (person n level)) n ≡ record { declared = true; level = record { 0 = level } }
+  unfolding declare
+  person-given n level s p = getD-set-same (t .persons) n _ noPerson (rw (s .persons .size) (person-below n level p))
+
+  pub folder-given : (o f kind level : ℕ) → Sound AnyWidth t → Passes t (folder o f kind level)
+      → folderAt (declare t (folder o f kind level)) o ≡ record { declared = true; firm = f; kind = kind; level = record { 0 = level } }
+  unfolding declare
+  folder-given o f kind level s p =
+      getD-set-same (t .folders) o _ noFolder (rw (s .folders .size) (folder-below o f kind level p))
+
+  pub role-given : (k rights : ℕ) → Sound AnyWidth t → Passes t (role k rights)
+      → roleAt (declare t (role k rights)) k ≡ record { declared = true; rights = rights }
+  unfolding declare
+  role-given k rights s p = getD-set-same (t .roles) k _ noRole (rw (s .roles .size) (role-below k rights p))
+
+  pub pair-given : (p q : ℕ) → Sound AnyWidth t → Passes t (pair p q) → enables (declare t (pair p q)) p q ≡ true
+  unfolding declare enables
+  pair-given p q s h =
+      ap (λ (x : ℕ). bit x q) (getD-set-same (t .steps) p _ 0 (rw (s .steps .size) (pair-below p q h)))
+      ∙ bit-with (enabledBy t p) q q ∙ or-left (eqb q q) _ (eq-eqb q q refl)
+
+-- ---- the five parts
+
+abbrev pub firmPart : Part
+firmPart =
+    record {
+      Index = ℕ;
+      Value = ℕ;
+      Entry = Firm;
+      records = firm;
+      value = λ class. record { declared = true; class = class };
+      entry = firmAt;
+      isDeclared = λ f. f .declared;
+      marked = λ v. refl;
+      fresh = firm-fresh;
+      given = firm-given;
+      left = firm-left;
+    }
+
+abbrev pub personPart : Part
+personPart =
+    record {
+      Index = ℕ;
+      Value = ℕ;
+      Entry = Person;
+      records = person;
+      value = λ level. record { declared = true; level = record { 0 = level } };
+      entry = personAt;
+      isDeclared = λ s. s .declared;
+      marked = λ v. refl;
+      fresh = person-fresh;
+      given = person-given;
+      left = person-left;
+    }
+
+abbrev pub folderPart : Part
+folderPart =
+    record {
+      Index = ℕ;
+      Value = ℕ × ℕ × ℕ;
+      Entry = Folder;
+      records = λ o v. folder o (v .0) (v .1) (v .2);
+      value = λ v. record { declared = true; firm = v .0; kind = v .1; level = record { 0 = v .2 } };
+      entry = folderAt;
+      isDeclared = λ o. o .declared;
+      marked = λ v. refl;
+      fresh = λ t o v. folder-fresh t o (v .0) (v .1) (v .2);
+      given = λ t o v. folder-given t o (v .0) (v .1) (v .2);
+      left = λ t r o h. folder-left t r o (λ f kind level. h (f, kind, level));
+    }
+
+abbrev pub rolePart : Part
+rolePart =
+    record {
+      Index = ℕ;
+      Value = ℕ;
+      Entry = Role;
+      records = role;
+      value = λ rights. record { declared = true; rights = rights };
+      entry = roleAt;
+      isDeclared = λ k. k .declared;
+      marked = λ v. refl;
+      fresh = role-fresh;
+      given = role-given;
+      left = role-left;
+    }
+
+abbrev pub pairPart : Part
+pairPart =
+    record {
+      Index = ℕ × ℕ;
+      Value = Unit {0};
+      Entry = Bool;
+      records = λ i v. pair (i .0) (i .1);
+      value = λ v. true;
+      entry = λ t i. enables t (i .0) (i .1);
+      isDeclared = λ b. b;
+      marked = λ v. refl;
+      fresh = λ t i v. pair-fresh t (i .0) (i .1);
+      given = λ t i v. pair-given t (i .0) (i .1);
+      left = λ t r i h. pair-left t r (i .0) (i .1) (h tt);
+    }
