@@ -4,8 +4,9 @@ use Prim.Native.Nat.{ℕ, _≤_, _<_}
 use mathlib.Core.Path.{_≡_}
 use mathlib.Core.Logic.{_⊎_, inl, inr, ⊎-elim}
 use mathlib.Core.Bool.{Bool, true, false, not, _&&_}
-use lib.Dec.{eqb, leb}
-use borrow.Author.Tests.{leb-true, eqb-true, not-true}
+use native.Mathlib.Omega.{arith}
+use lib.Dec.{eqb, leb, ltb}
+use borrow.Author.Tests.{leb-true, ltb-true, eqb-true, not-true}
 use Rattle.bits.proofs.Booleans.{and-left, and-right, decide}
 use Rattle.bits.specs.Bounded.{allBelow}
 use Rattle.bits.proofs.Bounds.{all-at}
@@ -25,9 +26,9 @@ use Rattle.policy.specs.Tables.{
   roleAt,
   enables,
   firmDeclared,
+  folderDeclared,
 }
 use Rattle.policy.specs.Rulebook.{
-  firm,
   hasCircle,
   hasLoose,
   firmGiven,
@@ -85,6 +86,27 @@ given-entries t g =
       noCircle = not-true _ circle;
       noLoose = not-true _ loose;
     }
+
+-- ---- a declared folder
+
+module _ (t : Tables) (ok : given t ≡ true) (o : ℕ) (known : folderDeclared t o ≡ true) where
+  folder-given : firmDeclared t (folderAt t o .firm) && leb (folderAt t o .kind) 15 ≡ true
+  unfolding folderDeclared folderGiven
+  folder-given =
+      let below = ltb-true o 128 (and-left (ltb o 128) _ known) in
+      let marked = and-right (ltb o 128) (folderAt t o .declared) known in
+      rw marked at (given-entries t ok .folders o below)
+
+  -- its firm is declared, and its kind at most 15
+  pub folder-firm : folderAt t o .firm < 64
+  unfolding firmDeclared
+  folder-firm =
+      ltb-true (folderAt t o .firm) 64
+      (and-left (ltb (folderAt t o .firm) 64) _ (and-left (firmDeclared t (folderAt t o .firm)) _ folder-given))
+
+  pub folder-kind : folderAt t o .kind < 16
+  folder-kind =
+      let l = leb-true (folderAt t o .kind) 15 (and-right (firmDeclared t (folderAt t o .firm)) _ folder-given) in omega arith
 
 -- ---- an entry is blank, or declared and in range
 

@@ -1,0 +1,72 @@
+// The wall and the roles (document 01, "Four rules"), over the tables and the sets of what a person did.
+ghost use mathlib.Core.Path.{_≡_};
+ghost use mathlib.Core.Bool.{Bool, true, not, _&&_};
+ghost use Prim.Native.Nat.{_<_};
+ghost use Rattle.bits.specs.Bounded.{_⇒_};
+ghost use Rattle.policy.specs.Tables.{folderDeclared, inForce};
+ghost use Rattle.policy.specs.Rulebook.{given};
+ghost use Rattle.rules.specs.Sets.{isRival, wallBy, covers, rolesBy};
+use policy::Firm;
+use policy::Role;
+use policy::Tables;
+
+// A byte as an index.
+fn wide(x: u8) -> usize
+    ensures { λ r. ⌜ (r ≡ x) × (r < 256) ⌝ }
+{
+    x as usize
+}
+
+// Whether firm f, which has this entry, is one of the firms and of the class.
+fn is_rival(e: Firm, firms: u64, f: usize, class: u8) -> bool
+    ensures { λ r. ⌜ r ≡ isRival (e .class) firms f class ⌝ }
+{
+    if e.class == class {
+        bits::bit64(firms, f)
+    } else {
+        false
+    }
+}
+
+// Whether the wall permits a person who opened these firms an access to folder o.
+pub fn wall_permits(t: Tables, firms: u64, o: usize) -> bool
+    requires { ⌜ (given t ≡ true) × (folderDeclared t o ≡ true) ⌝ }
+    ensures { λ r. ⌜ r ≡ wallBy t firms o ⌝ }
+{
+    let e = t.folders[o];
+    let firm = wide(e.firm);
+    if bits::bit64(firms, firm) {
+        return true;
+    }
+    let class = t.firms[firm].class;
+    for f in 0..64 {
+        if is_rival(t.firms[f], firms, f, class) {
+            return false;
+        }
+    }
+    true
+}
+
+// Whether a role is declared and holds all these rights.
+fn covers_all(e: Role, rights: u64) -> bool
+    ensures { λ r. ⌜ r ≡ covers (e .declared) (e .rights) rights ⌝ }
+{
+    if e.declared {
+        rights & e.rights == rights
+    } else {
+        false
+    }
+}
+
+// Whether some role holds the rights used and the new one.
+pub fn roles_permit(t: Tables, used: u64, right: usize) -> bool
+    ensures { λ r. ⌜ r ≡ rolesBy t used right ⌝ }
+{
+    let rights = bits::with_bit64(used, right);
+    for k in 0..32 {
+        if covers_all(t.roles[k], rights) {
+            return true;
+        }
+    }
+    false
+}
