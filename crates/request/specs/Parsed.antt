@@ -1,0 +1,20 @@
+-- The request that a parsed record is, and the length of its record.
+use Prim.Native.Nat.{ℕ}
+use mathlib.Core.Option.{Option, none, some}
+use Rattle.policy.specs.Request.{Request, read, write, start, step}
+use Rattle.request.specs.declared.Parsed.{Parsed}
+use Rattle.request.specs.declared.Parsed.the-variants.{Nothing, Read, Write, Start, Step}
+
+abbrev pub asRequest : Parsed → Option Request
+asRequest Nothing = none
+asRequest (Read s o) = some (read s o)
+asRequest (Write s o) = some (write s o)
+asRequest (Start s u) = some (start s u)
+asRequest (Step s p o) = some (step s p o)
+
+abbrev pub lengthOf : Parsed → ℕ
+lengthOf Nothing = 0
+lengthOf (Read s o) = 3
+lengthOf (Write s o) = 3
+lengthOf (Start s u) = 3
+lengthOf (Step s p o) = 4
