@@ -1,20 +1,20 @@
 -- The set of the numbers below n of which a test holds, as bits: its members are those numbers and no others, and a set is empty exactly
 -- where its number is 0. By induction on n, since each number is put in at its own turn.
-use Prim.Native.Nat.{ℕ, zero, suc, _+_, _^_, _≤_, _<_}
+use Prim.Native.Nat.{ℕ, zero, suc, _+_, _-_, _*_, _^_, _<_}
 use native.Mathlib.Nat.{eq-or-lt-of-le, le-of-suc-le-suc, lt-suc-self, lt-of-lt-of-le}
 use native.Mathlib.Omega.{arith}
 use mathlib.Core.Path.{_≡_, refl, sym, ap, ap₂, _∙_}
 use mathlib.Core.Logic.{_⊎_, inl, inr, ⊎-elim}
-use mathlib.Core.Bool.{Bool, true, false, cond, not, _&&_, _||_, and-false}
+use mathlib.Core.Bool.{Bool, true, false, cond, not, _&&_, _||_, or-comm}
 use lib.Dec.{eqb, ltb}
-use lib.Bits.{bitAnd, and-le-r}
+use lib.Bits.{bitOr, or-lt, shifted-half, shifted-even}
 use lib.Pow.{pow-mono, pow-pos}
 use borrow.Author.Tests.{ltb-true, ltb-false, lt-ltb, le-ltb, eqb-true, eq-eqb, ne-eqb}
 use Rattle.bits.specs.Bits.{bit, withBit, withBitIf, maskBelow}
-use Rattle.bits.specs.Bounded.{anyBelow, foldBelow}
-use Rattle.bits.proofs.Booleans.{and-left, and-right, and-both, or-cases, or-left, or-right, bool-ext, decide, false-elim, false-intro}
-use Rattle.bits.proofs.Bounds.{any-some, some-any, fold-start, fold-more, fold-step}
-use Rattle.bits.proofs.BitLaws.{bit-zero, bit-with, bit-and, bit-high, bits-ext, with-lt}
+use Rattle.bits.specs.Bounded.{anyBelow, foldBelow, countBelow}
+use Rattle.bits.proofs.Booleans.{and-left, and-right, and-both, or-cases, or-left, or-right, bool-ext, by-test, decide, false-elim, false-intro}
+use Rattle.bits.proofs.Bounds.{any-some, some-any, fold-start, fold-step, count-ext}
+use Rattle.bits.proofs.BitLaws.{bit-or, bit-half, bit-low, bit-zero, bit-with, bits-ext, with-lt}
 
 pub mask-start : (p : ℕ → Bool) → maskBelow 0 p ≡ 0
 unfolding maskBelow
@@ -87,3 +87,79 @@ empty-none n m l =
     let z : m ≡ 0 = bits-ext n m 0 l (pow-pos n) (λ k i. false-intro (bit m k) (λ b. false-elim (anyBelow n (bit m)) f (some-any n (bit m) k i b)) ∙ sym (bit-zero k)) in
     eq-eqb m 0 z ∙ sym (ap not f))
     (decide (anyBelow n (bit m)))
+
+-- ---- sets changed
+
+eqb-comm : (a b : ℕ) → eqb a b ≡ eqb b a
+eqb-comm a b =
+    bool-ext _ _ (λ e. eq-eqb b a (sym (eqb-true a b e))) (λ e. eq-eqb a b (sym (eqb-true b a e)))
+
+-- k is added where the test holds
+bit-if : (a : Bool) (n k j : ℕ) → bit (cond a (withBit n k) n) j ≡ (a && eqb k j) || bit n j
+bit-if true n k j = bit-with n k j ∙ ap (λ (t : Bool). t || bit n j) (eqb-comm j k)
+bit-if false n k j = refl
+
+pub mask-none : (n : ℕ) (p : ℕ → Bool) → ((k : ℕ) → k < n → p k ≡ false) → maskBelow n p ≡ 0
+mask-none n p h = sym (mask-of-bits n 0 p (pow-pos n) (λ k l. bit-zero k ∙ sym (h k l)))
+
+-- ---- sets joined, and a member added
+
+pub mask-or : (n : ℕ) (p q : ℕ → Bool) → bitOr (maskBelow n p) (maskBelow n q) ≡ maskBelow n (λ k. q k || p k)
+mask-or n p q =
+    mask-of-bits n _ (λ k. q k || p k) (or-lt n _ _ (mask-lt n p) (mask-lt n q)) (λ k l.
+    bit-or (maskBelow n p) (maskBelow n q) k ∙ ap₂ _||_ (bit-mask-below n p k l) (bit-mask-below n q k l) ∙ or-comm (p k) (q k))
+
+pub mask-with : (n : ℕ) (p : ℕ → Bool) (k : ℕ) (a : Bool) → k < n
+    → cond a (withBit (maskBelow n p) k) (maskBelow n p) ≡ maskBelow n (λ j. (a && eqb k j) || p j)
+mask-with n p k a b =
+    let below : cond a (withBit (maskBelow n p) k) (maskBelow n p) < 2 ^ n =
+    by-test (λ (m : ℕ). m < 2 ^ n) a _ _ (λ t. with-lt n (maskBelow n p) k (mask-lt n p) b) (λ f. mask-lt n p) in
+    mask-of-bits n _ (λ j. (a && eqb k j) || p j) below (λ j l.
+    bit-if a (maskBelow n p) k j ∙ ap (λ (t : Bool). (a && eqb k j) || t) (bit-mask-below n p j l))
+
+-- ---- a set shifted up
+
+shifted-bit-at : (n d j : ℕ) → bit (n * 2 ^ d) (d + j) ≡ bit n j
+shifted-bit-at n zero j = ap₂ bit (omega arith) (omega arith)
+shifted-bit-at n (suc d) j =
+    let next : suc d + j ≡ suc (d + j) = omega arith in
+    ap (bit (n * 2 ^ suc d)) next ∙ sym (bit-half (n * 2 ^ suc d) (d + j)) ∙ ap (λ (x : ℕ). bit x (d + j)) (shifted-half n d)
+    ∙ shifted-bit-at n d j
+
+shifted-bit-low : (n d j : ℕ) → j < d → bit (n * 2 ^ d) j ≡ false
+shifted-bit-low n zero j l = absurd (omega arith)
+shifted-bit-low n (suc d) zero l = bit-low (n * 2 ^ suc d) ∙ ap (λ (x : ℕ). eqb x 1) (shifted-even n d)
+shifted-bit-low n (suc d) (suc j) l =
+    sym (bit-half (n * 2 ^ suc d) j) ∙ ap (λ (x : ℕ). bit x j) (shifted-half n d) ∙ shifted-bit-low n d j (omega arith)
+
+-- k is in the shifted set where k is some member, shifted
+pub mask-shifted : (n d : ℕ) (p : ℕ → Bool) (k : ℕ)
+    → bit (maskBelow n p * 2 ^ d) k ≡ anyBelow n (λ j. p j && eqb (d + j) k)
+mask-shifted n d p k = bool-ext _ _ there back
+  where
+    there : bit (maskBelow n p * 2 ^ d) k ≡ true → anyBelow n (λ j. p j && eqb (d + j) k) ≡ true
+    there b = ⊎-elim low high (decide (ltb k d))
+      where
+        low : ltb k d ≡ true → anyBelow n (λ j. p j && eqb (d + j) k) ≡ true
+        low l = absurd (false-elim _ (shifted-bit-low (maskBelow n p) d k (ltb-true k d l)) b)
+
+        high : ltb k d ≡ false → anyBelow n (λ j. p j && eqb (d + j) k) ≡ true
+        high l =
+            let m = ltb-false k d l in
+            let from : d + (k - d) ≡ k = omega arith in
+            let in-mask : ltb (k - d) n && p (k - d) ≡ true =
+            sym (bit-mask n p (k - d)) ∙ sym (shifted-bit-at (maskBelow n p) d (k - d)) ∙ ap (bit (maskBelow n p * 2 ^ d)) from ∙ b in
+            some-any n (λ j. p j && eqb (d + j) k) (k - d) (ltb-true _ _ (and-left (ltb (k - d) n) _ in-mask))
+            (and-both _ _ (and-right (ltb (k - d) n) _ in-mask) (eq-eqb _ _ from))
+
+    back : anyBelow n (λ j. p j && eqb (d + j) k) ≡ true → bit (maskBelow n p * 2 ^ d) k ≡ true
+    back e =
+        let (j, l, w) = any-some n (λ j. p j && eqb (d + j) k) e in
+        ap (bit (maskBelow n p * 2 ^ d)) (sym (eqb-true (d + j) k (and-right (p j) _ w)))
+        ∙ shifted-bit-at (maskBelow n p) d j ∙ bit-mask-below n p j l ∙ and-left (p j) _ w
+
+-- ---- how many
+
+-- a set has as many members as there are numbers of which its test holds
+pub mask-count : (n : ℕ) (p : ℕ → Bool) → countBelow n (bit (maskBelow n p)) ≡ countBelow n p
+mask-count n p = count-ext n (bit (maskBelow n p)) p (bit-mask-below n p)

@@ -1,7 +1,7 @@
--- The request that a parsed record is, and the length of its record.
+-- The request that a parsed record is, the length of its record, and the index of its bit.
 use Prim.Native.Nat.{ℕ}
 use mathlib.Core.Option.{Option, none, some}
-use Rattle.policy.specs.Request.{Request, read, write, start, step}
+use Rattle.policy.specs.Request.{Request, read, write, start, step, index}
 use Rattle.request.specs.declared.Parsed.{Parsed}
 use Rattle.request.specs.declared.Parsed.the-variants.{Nothing, Read, Write, Start, Step}
 
@@ -18,3 +18,11 @@ lengthOf (Read s o) = 3
 lengthOf (Write s o) = 3
 lengthOf (Start s u) = 3
 lengthOf (Step s p o) = 4
+
+-- the index of its bit in a history; 0 for none
+abbrev pub indexOf : Parsed → ℕ
+indexOf Nothing = 0
+indexOf (Read s o) = index (read s o)
+indexOf (Write s o) = index (write s o)
+indexOf (Start s u) = index (start s u)
+indexOf (Step s p o) = index (step s p o)

@@ -1,7 +1,8 @@
 // Request records (document 01, "Requests and calls"): the request at the front of some bytes.
 ghost use mathlib.Core.Path.{_≡_};
+ghost use Prim.Native.Nat.{_<_};
 ghost use Rattle.policy.specs.Request.{requestOf};
-ghost use Rattle.request.specs.Parsed.{asRequest, lengthOf};
+ghost use Rattle.request.specs.Parsed.{asRequest, lengthOf, indexOf};
 
 // A request with its fields, or none: the kind is unknown or the record is cut.
 pub enum Parsed {
@@ -72,5 +73,29 @@ pub fn record_length(r: Parsed) -> usize
             step: _,
             folder: _,
         } => 4,
+    }
+}
+
+// A byte as an index.
+fn wide(x: u8) -> usize
+    ensures { λ r. ⌜ (r ≡ x) × (r < 256) ⌝ }
+{
+    x as usize
+}
+
+// The index of the request's bit in a history; 0 for none.
+pub fn index(r: Parsed) -> usize
+    ensures { λ n. ⌜ n ≡ indexOf r ⌝ }
+{
+    match r {
+        Parsed::Nothing => 0,
+        Parsed::Read { person, folder } => 128 * wide(person) + wide(folder),
+        Parsed::Write { person, folder } => 8192 + 128 * wide(person) + wide(folder),
+        Parsed::Start { person, second } => 16384 + 64 * wide(person) + wide(second),
+        Parsed::Step {
+            person,
+            step,
+            folder,
+        } => 20480 + 64 * (16 * wide(folder) + wide(step)) + wide(person),
     }
 }

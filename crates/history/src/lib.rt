@@ -1,0 +1,47 @@
+// A history's bits (document 01, "History"): one bit for each possible request.
+ghost use mathlib.Core.Path.{_≡_};
+ghost use Rattle.policy.specs.History.{bitAt, withBitAt};
+ghost use Rattle.policy.specs.Calls.{blankNumber, blankHistory};
+
+// The bytes of a history.
+pub const BYTES: usize = 18944;
+
+// The number of the refusal of a history that has not BYTES bytes.
+pub const WRONG_LENGTH: u8 = 10;
+
+// Whether the bit of index i is set; past the end none is.
+pub fn bit_at(h: &[u8], i: usize) -> bool
+    ensures { λ r. ⌜ r ≡ bitAt (now (h .entry)) i ⌝ }
+{
+    let at = i / 8;
+    if at >= h.len() {
+        return false;
+    }
+    bits::bit8(h[at], i)
+}
+
+// Sets the bit of index i; past the end nothing changes.
+pub fn set_bit(h: &mut [u8], i: usize)
+    ensures { λ r. ⌜ now (h .exit) ≡ withBitAt (now (h .entry)) i ⌝ }
+{
+    let at = i / 8;
+    if at >= h.len() {
+        return;
+    }
+    h[at] = bits::with_bit8(h[at], i);
+}
+
+// Makes a history blank: 0, or WRONG_LENGTH, and then nothing changes.
+pub fn blank(h: &mut [u8]) -> u8
+    ensures { λ r. ⌜ (r ≡ blankNumber (now (h .entry))) × (now (h .exit) ≡ blankHistory (now (h .entry))) ⌝ }
+{
+    if h.len() != BYTES {
+        return WRONG_LENGTH;
+    }
+    let mut i = 0;
+    while i < h.len() {
+        h[i] = 0;
+        i += 1;
+    }
+    0
+}

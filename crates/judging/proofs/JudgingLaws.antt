@@ -1,0 +1,148 @@
+-- The number of a request, by the checks that its kind leaves open: a rule that passes every request of a kind drops out of the ladder,
+-- and the roles over the set of rights used are the roles of the definitions.
+use Prim.Native.Nat.{ℕ, _+_}
+use native.Mathlib.Omega.{arith}
+use mathlib.Core.Path.{_≡_, refl, sym, ap, _∙_}
+use mathlib.Core.Logic.{_≢_, _⊎_, inl, inr}
+use mathlib.Core.Bool.{Bool, true, false, cond, not, _&&_}
+use mathlib.Core.List.{List, [], _∷_}
+use mathlib.Core.Option.{some}
+use lib.Dec.{leb}
+use borrow.Author.Tests.{lt-leb}
+use Rattle.bits.specs.Bits.{maskBelow}
+use Rattle.bits.specs.Bounded.{_⇒_}
+use Rattle.bits.proofs.Booleans.{and-left, and-right, and-both, false-intro, false-elim}
+use Rattle.level.specs.Levels.{atMost}
+use Rattle.policy.specs.declared.Tables.{Tables}
+use Rattle.policy.specs.Checks.{ladder}
+use Rattle.policy.specs.Tables.{folderAt, personDeclared, folderDeclared, inForce}
+use Rattle.policy.specs.Rulebook.{given}
+use Rattle.policy.specs.Request.{Request, read, write, start, step, subject}
+use Rattle.policy.specs.Rules.{
+  declared,
+  right,
+  wall,
+  wallAccess,
+  currentLevel,
+  lowWater,
+  used,
+  roles,
+  pipelineStep,
+  pipeline,
+}
+use Rattle.policy.specs.Calls.{requestChecks}
+use Rattle.policy.proofs.Requests.{step-declared}
+use Rattle.rules.specs.Sets.{rolesBy}
+use Rattle.rules.proofs.SetLaws.{roles-by}
+use Rattle.judging.specs.Judging.{numberOf, accessNumber, judged}
+
+-- ---- a rule in force or not
+
+implies-true : (b : Bool) → (b ⇒ true) ≡ true
+implies-true true = refl
+implies-true false = refl
+
+-- a rule that is not in force, or permits, lets pass
+pub passes : (b w : Bool) → ((b ≡ true) × (w ≡ true)) ⊎ (b ≡ false) → (b ⇒ w) ≡ true
+passes b w (inl h) = rw (h .0) (h .1)
+passes b w (inr n) = rw n
+
+pub refuses : (b w : Bool) → b ≡ true → w ≡ false → (b ⇒ w) ≡ false
+refuses b w p q = rw p q
+
+-- ---- the three rules of an access
+
+module _ (t : Tables) (w l r : Bool) where
+  pub number-wall : (inForce t 0 ⇒ w) ≡ false → numberOf t w l r ≡ 14
+  unfolding numberOf ladder
+  number-wall a = rw a
+
+  pub number-level : (inForce t 0 ⇒ w) ≡ true → (inForce t 1 ⇒ l) ≡ false → numberOf t w l r ≡ 15
+  unfolding numberOf ladder
+  number-level a b = rw (a, b)
+
+  pub number-roles : (inForce t 0 ⇒ w) ≡ true → (inForce t 1 ⇒ l) ≡ true → (inForce t 2 ⇒ r) ≡ false → numberOf t w l r ≡ 16
+  unfolding numberOf ladder
+  number-roles a b c = rw (a, b, c)
+
+  pub number-none : (inForce t 0 ⇒ w) ≡ true → (inForce t 1 ⇒ l) ≡ true → (inForce t 2 ⇒ r) ≡ true → numberOf t w l r ≡ 0
+  unfolding numberOf ladder
+  number-none a b c = rw (a, b, c)
+
+-- ---- a whole request
+
+-- the number of three tests, and another number where they all permit
+abbrev afterThree : Bool → Bool → Bool → ℕ → ℕ
+afterThree a b c n = cond a (cond b (cond c n 16) 15) 14
+
+after-zero : (a b c : Bool) (n : ℕ) → afterThree a b c 0 ≡ 0 → afterThree a b c n ≡ n
+after-zero true true true n z = refl
+after-zero true true false n z = let y : ⊥ = omega arith in absurd y
+after-zero true false c n z = let y : ⊥ = omega arith in absurd y
+after-zero false b c n z = let y : ⊥ = omega arith in absurd y
+
+after-refusal : (a b c : Bool) (n : ℕ) → afterThree a b c 0 ≢ 0 → afterThree a b c n ≡ afterThree a b c 0
+after-refusal true true true n k = absurd (k refl)
+after-refusal true true false n k = refl
+after-refusal true false c n k = refl
+after-refusal false b c n k = refl
+
+module _ (t : Tables) (H : Request → Bool) where
+  pub not-declared : (r : Request) → declared t r ≡ false → judged t H r ≡ 13
+  unfolding judged requestChecks ladder
+  not-declared r d = rw d
+
+  -- wall, low-water and roles decide where the pipeline passes
+  by-three : (r : Request) → declared t r ≡ true → pipeline t H r ≡ true
+      → judged t H r ≡ numberOf t (wall t H r) (lowWater t (currentLevel t H) r) (roles t H r)
+  unfolding judged requestChecks ladder numberOf
+  by-three r d p = rw (d, p, implies-true (inForce t 3))
+
+  -- and before it
+  pub then-pipeline : (s p o : ℕ) → declared t (step s p o) ≡ true
+      → numberOf t (wall t H (step s p o)) (lowWater t (currentLevel t H) (step s p o)) (roles t H (step s p o)) ≡ 0
+      → judged t H (step s p o) ≡ cond (inForce t 3 ⇒ pipelineStep t H p o) 0 17
+  unfolding judged requestChecks ladder numberOf pipeline
+  then-pipeline s p o d z =
+      rw d
+      (after-zero (inForce t 0 ⇒ wall t H (step s p o)) (inForce t 1 ⇒ lowWater t (currentLevel t H) (step s p o))
+      (inForce t 2 ⇒ roles t H (step s p o)) (cond (inForce t 3 ⇒ pipelineStep t H p o) 0 17) z)
+
+  pub before-pipeline : (s p o n : ℕ) → declared t (step s p o) ≡ true
+      → n ≡ numberOf t (wall t H (step s p o)) (lowWater t (currentLevel t H) (step s p o)) (roles t H (step s p o)) → n ≢ 0
+      → judged t H (step s p o) ≡ n
+  unfolding judged requestChecks ladder numberOf
+  before-pipeline s p o n d e k =
+      rw d
+      (after-refusal (inForce t 0 ⇒ wall t H (step s p o)) (inForce t 1 ⇒ lowWater t (currentLevel t H) (step s p o))
+      (inForce t 2 ⇒ roles t H (step s p o)) (cond (inForce t 3 ⇒ pipeline t H (step s p o)) 0 17) (λ z. k (e ∙ z)))
+      ∙ sym e
+
+  module _ (ok : given t ≡ true) where
+    pub read-number : (s o : ℕ) → declared t (read s o) ≡ true
+        → judged t H (read s o) ≡ accessNumber t H s o (folderAt t o .kind) false
+    unfolding accessNumber wall lowWater right pipeline subject
+    read-number s o d =
+        by-three (read s o) d refl ∙ ap (numberOf t (wallAccess t H s o) true) (sym (roles-by t H s ok (read s o) d refl))
+
+    pub write-number : (s o : ℕ) → declared t (write s o) ≡ true
+        → judged t H (write s o) ≡ accessNumber t H s o (16 + folderAt t o .kind) true
+    unfolding accessNumber wall lowWater right pipeline subject
+    write-number s o d =
+        by-three (write s o) d refl
+        ∙ ap (numberOf t (wallAccess t H s o) (atMost 12 (folderAt t o .level .0) (currentLevel t H s)))
+        (sym (roles-by t H s ok (write s o) d refl))
+
+    pub start-number : (s u : ℕ) → declared t (start s u) ≡ true
+        → judged t H (start s u)
+        ≡ numberOf t true (atMost 12 (currentLevel t H u) (currentLevel t H s)) (rolesBy t (maskBelow 64 (used t H s)) 32)
+    unfolding wall lowWater right pipeline subject
+    start-number s u d =
+        by-three (start s u) d refl
+        ∙ ap (numberOf t true (atMost 12 (currentLevel t H u) (currentLevel t H s))) (sym (roles-by t H s ok (start s u) d refl))
+
+    pub step-number : (s p o : ℕ) → declared t (step s p o) ≡ true
+        → accessNumber t H s o (48 + p) false
+        ≡ numberOf t (wall t H (step s p o)) (lowWater t (currentLevel t H) (step s p o)) (roles t H (step s p o))
+    unfolding accessNumber wall lowWater right subject
+    step-number s p o d = ap (numberOf t (wallAccess t H s o) true) (roles-by t H s ok (step s p o) d refl)
