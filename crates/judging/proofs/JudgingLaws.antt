@@ -1,14 +1,13 @@
 -- The number of a request, by the checks that its kind leaves open: a rule that passes every request of a kind drops out of the ladder,
 -- and the roles over the set of rights used are the roles of the definitions.
-use Prim.Native.Nat.{ℕ, _+_}
+use Prim.Native.Nat.{ℕ, _+_, _<_}
 use native.Mathlib.Omega.{arith}
 use mathlib.Core.Path.{_≡_, refl, sym, ap, _∙_}
 use mathlib.Core.Logic.{_≢_, _⊎_, inl, inr}
 use mathlib.Core.Bool.{Bool, true, false, cond, not, _&&_}
 use mathlib.Core.List.{List, [], _∷_}
 use mathlib.Core.Option.{some}
-use lib.Dec.{leb}
-use borrow.Author.Tests.{lt-leb}
+use borrow.Author.Tests.{not-false}
 use Rattle.bits.specs.Bits.{maskBelow}
 use Rattle.bits.specs.Bounded.{_⇒_}
 use Rattle.bits.proofs.Booleans.{and-left, and-right, and-both, false-intro, false-elim}
@@ -31,14 +30,18 @@ use Rattle.policy.specs.Rules.{
   pipeline,
 }
 use Rattle.policy.specs.Calls.{requestChecks}
-use Rattle.policy.proofs.Requests.{step-declared}
-use Rattle.rules.specs.Sets.{rolesBy}
-use Rattle.rules.proofs.SetLaws.{roles-by}
-use Rattle.judging.specs.Judging.{numberOf, accessNumber, judged}
+use Rattle.policy.proofs.Requests.{declared-person, declared-step, declared-folder}
+use Rattle.past.specs.declared.Past.{Past}
+use Rattle.past.specs.Past.{pastOf}
+use Rattle.rules.specs.Sets.{wallBy, rolesBy}
+use Rattle.rules.proofs.SetLaws.{wall-by, roles-by}
+use Rattle.request.specs.declared.Parsed.{Parsed}
+use Rattle.request.specs.declared.Parsed.the-variants.{Read, Write, Start, Step}
+use Rattle.judging.specs.Judging.{numberOf, accessNumber, judged, parsedNumber}
 
 -- ---- a rule in force or not
 
-implies-true : (b : Bool) → (b ⇒ true) ≡ true
+pub implies-true : (b : Bool) → (b ⇒ true) ≡ true
 implies-true true = refl
 implies-true false = refl
 
@@ -49,6 +52,10 @@ passes b w (inr n) = rw n
 
 pub refuses : (b w : Bool) → b ≡ true → w ≡ false → (b ⇒ w) ≡ false
 refuses b w p q = rw p q
+
+-- a test of two that does not fail
+pub known-both : (a b r : Bool) → r ≡ a && b → not r ≡ false → (a ≡ true) × (b ≡ true)
+known-both a b r e n = let both = sym e ∙ not-false r n in (and-left a b both, and-right a b both)
 
 -- ---- the three rules of an access
 
@@ -70,6 +77,16 @@ module _ (t : Tables) (w l r : Bool) where
   number-none a b c = rw (a, b, c)
 
 -- ---- a whole request
+
+-- a step above 15, and a step of an undeclared person or folder, are not declared
+pub high-step : (t : Tables) (s p o : ℕ) → 15 < p → declared t (step s p o) ≡ false
+high-step t s p o l =
+    false-intro (declared t (step s p o)) (λ d. let k = declared-step t s p o d in let z : ⊥ = omega arith in z)
+
+pub undeclared-step : (t : Tables) (s p o : ℕ) → personDeclared t s && folderDeclared t o ≡ false → declared t (step s p o) ≡ false
+undeclared-step t s p o n =
+    false-intro (declared t (step s p o)) (λ d.
+    false-elim (personDeclared t s && folderDeclared t o) n (and-both _ _ (declared-person t s p o d) (declared-folder t s p o d)))
 
 -- the number of three tests, and another number where they all permit
 abbrev afterThree : Bool → Bool → Bool → ℕ → ℕ
@@ -119,6 +136,24 @@ module _ (t : Tables) (H : Request → Bool) where
       ∙ sym e
 
   module _ (ok : given t ≡ true) where
+    -- what a person did, once it is gathered, decides an access as the definitions do
+    pub access-past : (s o new : ℕ) (writes : Bool) (past : Past) → folderDeclared t o ≡ true → past ≡ pastOf t H s
+        → numberOf t (wallBy t (past .firms) o) (writes ⇒ atMost 12 (folderAt t o .level .0) (past .level .0)) (rolesBy t (past .rights) new)
+        ≡ accessNumber t H s o new writes
+    unfolding accessNumber pastOf
+    access-past s o new writes past known e =
+        rw e
+        (ap
+        (λ (w : Bool). numberOf t w (writes ⇒ atMost 12 (folderAt t o .level .0) (currentLevel t H s))
+        (rolesBy t (maskBelow 64 (used t H s)) new))
+        (wall-by t H s ok o known))
+
+    pub start-past : (s u : ℕ) (past : Past) → past ≡ pastOf t H s
+        → numberOf t true (atMost 12 (currentLevel t H u) (past .level .0)) (rolesBy t (past .rights) 32)
+        ≡ numberOf t true (atMost 12 (currentLevel t H u) (currentLevel t H s)) (rolesBy t (maskBelow 64 (used t H s)) 32)
+    unfolding pastOf
+    start-past s u past e = rw e
+
     pub read-number : (s o : ℕ) → declared t (read s o) ≡ true
         → judged t H (read s o) ≡ accessNumber t H s o (folderAt t o .kind) false
     unfolding accessNumber wall lowWater right pipeline subject
@@ -146,3 +181,23 @@ module _ (t : Tables) (H : Request → Bool) where
         ≡ numberOf t (wall t H (step s p o)) (lowWater t (currentLevel t H) (step s p o)) (roles t H (step s p o))
     unfolding accessNumber wall lowWater right subject
     step-number s p o d = ap (numberOf t (wallAccess t H s o) true) (roles-by t H s ok (step s p o) d refl)
+
+-- ---- a parsed record
+
+module _ (t : Tables) (H : Request → Bool) (r : Parsed) where
+  pub parsed-read : (a b s o : ℕ) → r ≡ Read a b → s ≡ a → o ≡ b → judged t H (read s o) ≡ parsedNumber t H r
+  unfolding judged parsedNumber
+  parsed-read a b s o e p q = rw (e, p, q)
+
+  pub parsed-write : (a b s o : ℕ) → r ≡ Write a b → s ≡ a → o ≡ b → judged t H (write s o) ≡ parsedNumber t H r
+  unfolding judged parsedNumber
+  parsed-write a b s o e p q = rw (e, p, q)
+
+  pub parsed-start : (a b s u : ℕ) → r ≡ Start a b → s ≡ a → u ≡ b → judged t H (start s u) ≡ parsedNumber t H r
+  unfolding judged parsedNumber
+  parsed-start a b s u e p q = rw (e, p, q)
+
+  pub parsed-step : (a b d s n o : ℕ) → r ≡ Step a b d → s ≡ a → n ≡ b → o ≡ d
+      → judged t H (step s n o) ≡ parsedNumber t H r
+  unfolding judged parsedNumber
+  parsed-step a b d s n o e p q k = rw (e, p, q, k)

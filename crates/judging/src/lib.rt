@@ -14,7 +14,6 @@ ghost use Rattle.policy.specs.Rules.{currentLevel, used, wallAccess};
 ghost use Rattle.policy.specs.Calls.{judgeOver};
 ghost use Rattle.rules.specs.Sets.{wallBy, rolesBy};
 ghost use Rattle.judging.specs.Judging.{Ready, numberOf, accessNumber, judged, parsedNumber};
-
 use level::Level;
 use past::Past;
 use policy::Tables;
@@ -22,11 +21,17 @@ use request::Parsed;
 
 // The published numbers of a request.
 pub const GRANTED: u8 = 0;
+
 pub const CUT: u8 = 12;
+
 pub const UNDECLARED: u8 = 13;
+
 pub const WALL: u8 = 14;
+
 pub const LOW_WATER: u8 = 15;
+
 pub const ROLES: u8 = 16;
+
 pub const PIPELINE: u8 = 17;
 
 // A byte as an index.
@@ -49,12 +54,10 @@ fn level_permits(write: bool, folder: Level, person: Level) -> bool
 // Wall, low-water and roles for an access to folder o, by what the person did.
 fn judge_past(t: Tables, did: Past, o: usize, right: usize, write: bool) -> u8
     requires { ⌜ (given t ≡ true) × (folderDeclared t o ≡ true) ⌝ }
-    ensures {
-        λ r. ⌜
-            r ≡ numberOf t (wallBy t (did .firms) o) (write ⇒ atMost 12 (folderAt t o .level .0) (did .level .0))
-                (rolesBy t (did .rights) right)
-        ⌝
-    }
+    ensures { λ r. ⌜
+        r ≡ numberOf t (wallBy t (did .firms) o) (write ⇒ atMost 12 (folderAt t o .level .0) (did .level .0))
+        (rolesBy t (did .rights) right)
+        ⌝ }
 {
     let mask = t.mask;
     if bits::bit8(mask, 0) {
@@ -184,12 +187,10 @@ fn are_persons(t: Tables, s: usize, u: usize) -> bool
 // Low-water and roles for a start of person u, by what the starter did. Roles are in force.
 fn judge_start_past(t: Tables, h: &[u8], did: Past, u: usize) -> u8
     requires { ⌜ Ready t (now h) × (personDeclared t u ≡ true) × (inForce t 2 ≡ true) ⌝ }
-    ensures {
-        λ r. ⌜
-            r ≡ numberOf t true (atMost 12 (currentLevel t (setOf (now (h .entry))) u) (did .level .0))
-                (rolesBy t (did .rights) 32)
-        ⌝
-    }
+    ensures { λ r. ⌜
+        r ≡ numberOf t true (atMost 12 (currentLevel t (setOf (now (h .entry))) u) (did .level .0))
+        (rolesBy t (did .rights) 32)
+        ⌝ }
 {
     if bits::bit8(t.mask, 1) {
         let own = did.level;

@@ -6,10 +6,16 @@ ghost use lib.Dec.{eqb};
 ghost use Rattle.policy.specs.Rulebook.{loadBook};
 ghost use Rattle.policy.specs.Request.{requestOf, setOf};
 ghost use Rattle.policy.specs.Calls.{
-    blankNumber, blankHistory, restOf, judgeOver, judgeNumber, recordedIf, putHistory, standing as standingOf
+  blankNumber,
+  blankHistory,
+  restOf,
+  judgeOver,
+  judgeNumber,
+  recordedIf,
+  putHistory,
+  standing as standingOf,
 };
 ghost use Rattle.judging.specs.Judging.{Ready};
-
 use level::Level;
 use policy::Loaded;
 use policy::Standing;
@@ -17,6 +23,7 @@ use policy::Tables;
 
 // The published numbers of a call that takes tables and a history.
 pub const WRONG_LENGTH: u8 = 10;
+
 pub const NOT_GIVEN: u8 = 11;
 
 // Makes a history blank.
@@ -56,12 +63,10 @@ pub fn judge(t: Tables, h: &[u8], request: &[u8]) -> u8
 // Judges the request at the front of the bytes, and records it if it is granted: on tables and a history that passed their checks.
 fn put_ready(t: Tables, h: &mut [u8], request: &[u8]) -> u8
     requires { ⌜ Ready t (now h) ⌝ }
-    ensures {
-        λ r. ⌜
-            (r ≡ judgeOver t (setOf (now (h .entry))) (now (request .entry)))
-            × (now (h .exit) ≡ recordedIf (eqb r 0) (now (h .entry)) (requestOf (now (request .entry))))
-        ⌝
-    }
+    ensures { λ r. ⌜
+        (r ≡ judgeOver t (setOf (now (h .entry))) (now (request .entry)))
+        × (now (h .exit) ≡ recordedIf (eqb r 0) (now (h .entry)) (requestOf (now (request .entry))))
+        ⌝ }
 {
     let parsed = request::parse(request);
     let number = judging::judge_parsed(t, h, parsed);
@@ -73,12 +78,10 @@ fn put_ready(t: Tables, h: &mut [u8], request: &[u8]) -> u8
 
 // Judges the request at the front of the bytes, and records it if it is granted.
 pub fn put(t: Tables, h: &mut [u8], request: &[u8]) -> u8
-    ensures {
-        λ r. ⌜
-            (r ≡ judgeNumber t (now (h .entry)) (now (request .entry)))
-            × (now (h .exit) ≡ putHistory t (now (h .entry)) (now (request .entry)))
-        ⌝
-    }
+    ensures { λ r. ⌜
+        (r ≡ judgeNumber t (now (h .entry)) (now (request .entry)))
+        × (now (h .exit) ≡ putHistory t (now (h .entry)) (now (request .entry)))
+        ⌝ }
 {
     if h.len() != history::BYTES {
         return WRONG_LENGTH;

@@ -1,0 +1,74 @@
+use native.Mathlib.Omega.{arith}
+use mathlib.Core.Path.{sym, ap, _∙_}
+use Prim.Native.Nat.{ℕ, _+_}
+use mathlib.Core.Bool.{true, false}
+use borrow.Author.Tests.{not-true}
+use Rattle.bits.proofs.Booleans.{and-both}
+use Rattle.policy.specs.Request.{read, setOf}
+use Rattle.policy.specs.Tables.{personDeclared, folderDeclared}
+use denote.Ref.{now}
+use Rattle.policy.specs.Rules.{declared}
+use Rattle.policy.proofs.Requests.{folder-below}
+use Rattle.judging.specs.Judging.{accessNumber}
+use Rattle.judging.proofs.JudgingLaws.{known-both, not-declared, read-number}
+use borrow.Author.Needs.{needs}
+use Rattle.judging.proofs.judge_read.Statement.{statement}
+use Rattle.judging.proofs.judge_read.Tie as tie
+use Rattle.judging.proofs.judge_read.Reads as reads
+use Rattle.judging.proofs.judge_read.Lts as lts
+use Rattle.judging.proofs.are_declared.Reads as are-declared-reads
+use Rattle.judging.proofs.judge_access.Reads as judge-access-reads
+use Rattle.judging.proofs.wide.Reads as wide-reads
+
+are-declared-requires : tie.Need-are-declared-requires
+are-declared-requires c κs = search needs
+
+returns : tie.Need-returns
+unfolding declared
+returns c = sym (not-declared _ _ (read _ _) (sym (c .before .are-declared .ensures) ∙ not-true _ (c .if1 .taken)))
+
+mul-folder : tie.Need-mul-folder
+mul-folder c =
+    let known =
+    known-both (personDeclared (c .before .before .before .args .t1) (c .before .before .before .args .s)) (folderDeclared (c .before .before .before .args .t1) (c .before .before .before .args .o))
+    (c .before .are-declared .result) (c .before .are-declared .ensures) (c .if1 .left) in
+    omega (arith, folder-below (c .before .before .before .args .t1) (c .before .before .before .args .o) (known .1))
+
+element-copy-out-folder : tie.Need-element-copy-out-folder
+element-copy-out-folder c =
+    let known =
+    known-both (personDeclared (c .before .before .before .args .t1) (c .before .before .before .args .s)) (folderDeclared (c .before .before .before .args .t1) (c .before .before .before .args .o))
+    (c .before .are-declared .result) (c .before .are-declared .ensures) (c .if1 .left) in
+    folder-below (c .before .before .before .args .t1) (c .before .before .before .args .o) (known .1)
+
+wide-requires : tie.Need-wide-requires
+wide-requires c κs = search needs
+
+judge-access-requires : tie.Need-judge-access-requires
+judge-access-requires c κs =
+    let known =
+    known-both (personDeclared (c .before .before .before .before .before .args .t1) (c .before .before .before .before .before .args .s)) (folderDeclared (c .before .before .before .before .before .args .t1) (c .before .before .before .before .before .args .o))
+    (c .before .before .before .are-declared .result) (c .before .before .before .are-declared .ensures) (c .before .before .if1 .left) in
+    (c .before .before .before .before .before .pre, known .0, known .1)
+
+returns-2 : tie.Need-returns-2
+unfolding declared
+returns-2 c =
+    let known =
+    known-both (personDeclared (c .before .before .before .before .before .before .args .t1) (c .before .before .before .before .before .before .args .s)) (folderDeclared (c .before .before .before .before .before .before .args .t1) (c .before .before .before .before .before .before .args .o))
+    (c .before .before .before .before .are-declared .result) (c .before .before .before .before .are-declared .ensures) (c .before .before .before .if1 .left) in
+    c .judge-access .ensures
+    ∙ ap (λ (n : ℕ). accessNumber (c .before .before .before .before .before .before .args .t1) (setOf (now (c .before .before .before .before .before .before .args .h))) (c .before .before .before .before .before .before .args .s) (c .before .before .before .before .before .before .args .o) n false) (c .before .wide .ensures .0)
+    ∙ sym (read-number _ _ (c .before .before .before .before .before .before .pre .tables) _ _ (and-both _ _ (known .0) (known .1)))
+
+pub judge-read-spec : {M : Type 1} → statement M
+judge-read-spec =
+    tie.close
+    (tie.spec
+    are-declared-requires
+    returns
+    mul-folder
+    element-copy-out-folder
+    wide-requires
+    judge-access-requires
+    returns-2)

@@ -1,0 +1,136 @@
+use mathlib.Core.Path.{sym, _∙_}
+use mathlib.Core.Logic.{inl, inr}
+use borrow.Author.Tests.{not-true, not-false}
+use Rattle.bits.proofs.Booleans.{and-both}
+use Rattle.policy.specs.Tables.{personDeclared, inForce}
+use Rattle.policy.specs.Request.{start}
+use Rattle.policy.specs.Rules.{declared}
+use Rattle.judging.proofs.JudgingLaws.{
+  implies-true,
+  passes,
+  refuses,
+  known-both,
+  number-level,
+  number-none,
+  not-declared,
+  start-past,
+  start-number,
+}
+use borrow.Author.Needs.{needs}
+use Rattle.judging.proofs.judge_start.Statement.{statement}
+use Rattle.judging.proofs.judge_start.Tie as tie
+use Rattle.judging.proofs.judge_start.Reads as reads
+use Rattle.judging.proofs.judge_start.Lts as lts
+use Rattle.bits.proofs.bit8.Reads as bit8-reads
+use Rattle.judging.proofs.are_persons.Reads as are-persons-reads
+use Rattle.judging.proofs.judge_start_past.Reads as judge-start-past-reads
+use Rattle.level.proofs.Level.compare.Reads as compare-reads
+use Rattle.past.proofs.current_level.Reads as current-level-reads
+use Rattle.past.proofs.past_of.Reads as past-of-reads
+
+are-persons-requires : tie.Need-are-persons-requires
+are-persons-requires c κs = search needs
+
+returns : tie.Need-returns
+unfolding declared
+returns c = sym (not-declared _ _ (start _ _) (sym (c .before .are-persons .ensures) ∙ not-true _ (c .if1 .taken)))
+
+bit8-requires : tie.Need-bit8-requires
+bit8-requires c κs = search needs
+
+past-of-requires : tie.Need-past-of-requires
+past-of-requires c κs =
+    let known =
+    known-both (personDeclared (c .before .before .before .before .before .args .t) (c .before .before .before .before .before .args .s)) (personDeclared (c .before .before .before .before .before .args .t) (c .before .before .before .before .before .args .u))
+    (c .before .before .before .are-persons .result) (c .before .before .before .are-persons .ensures) (c .before .before .if1 .left) in
+    (c .before .before .before .before .before .pre .size, c .before .before .before .before .before .pre .tables, known .0)
+
+judge-start-past-requires : tie.Need-judge-start-past-requires
+unfolding inForce
+judge-start-past-requires c κs =
+    let known =
+    known-both (personDeclared (c .before .before .before .before .before .before .args .t) (c .before .before .before .before .before .before .args .s)) (personDeclared (c .before .before .before .before .before .before .args .t) (c .before .before .before .before .before .before .args .u))
+    (c .before .before .before .before .are-persons .result) (c .before .before .before .before .are-persons .ensures) (c .before .before .before .if1 .left) in
+    (c .before .before .before .before .before .before .pre, known .1, (sym (c .before .before .bit8 .ensures) ∙ c .before .if2 .taken))
+
+returns-2 : tie.Need-returns-2
+unfolding declared
+returns-2 c =
+    let known =
+    known-both (personDeclared (c .before .before .before .before .before .before .before .args .t) (c .before .before .before .before .before .before .before .args .s)) (personDeclared (c .before .before .before .before .before .before .before .args .t) (c .before .before .before .before .before .before .before .args .u))
+    (c .before .before .before .before .before .are-persons .result) (c .before .before .before .before .before .are-persons .ensures) (c .before .before .before .before .if1 .left) in
+    c .judge-start-past .ensures
+    ∙ start-past _ _ (c .before .before .before .before .before .before .before .pre .tables) _ _ (c .before .past-of .result) (c .before .past-of .ensures)
+    ∙ sym (start-number _ _ (c .before .before .before .before .before .before .before .pre .tables) _ _ (and-both _ _ (known .0) (known .1)))
+
+bit8-requires-2 : tie.Need-bit8-requires-2
+bit8-requires-2 c κs = search needs
+
+returns-3 : tie.Need-returns-3
+unfolding declared inForce
+returns-3 c =
+    let known =
+    known-both (personDeclared (c .before .before .before .before .before .before .before .args .t) (c .before .before .before .before .before .before .before .args .s)) (personDeclared (c .before .before .before .before .before .before .before .args .t) (c .before .before .before .before .before .before .before .args .u))
+    (c .before .before .before .before .before .are-persons .result) (c .before .before .before .before .before .are-persons .ensures) (c .before .before .before .before .if1 .left) in
+    sym
+    (start-number _ _ (c .before .before .before .before .before .before .before .pre .tables) _ _ (and-both _ _ (known .0) (known .1))
+    ∙ number-none _ _ _ _ (implies-true (inForce (c .before .before .before .before .before .before .before .args .t) 0)) (passes _ _ (inr (sym (c .before .bit82 .ensures) ∙ not-true _ (c .if3 .taken))))
+    (passes _ _ (inr (sym (c .before .before .before .bit8 .ensures) ∙ c .before .before .if2 .left))))
+
+current-level-requires : tie.Need-current-level-requires
+current-level-requires c κs =
+    let known =
+    known-both (personDeclared (c .before .before .before .before .before .before .before .args .t) (c .before .before .before .before .before .before .before .args .s)) (personDeclared (c .before .before .before .before .before .before .before .args .t) (c .before .before .before .before .before .before .before .args .u))
+    (c .before .before .before .before .before .are-persons .result) (c .before .before .before .before .before .are-persons .ensures) (c .before .before .before .before .if1 .left) in
+    (c .before .before .before .before .before .before .before .pre .size, c .before .before .before .before .before .before .before .pre .tables, known .0)
+
+current-level-requires-2 : tie.Need-current-level-requires-2
+current-level-requires-2 c κs =
+    let known =
+    known-both (personDeclared (c .before .before .before .before .before .before .before .before .args .t) (c .before .before .before .before .before .before .before .before .args .s)) (personDeclared (c .before .before .before .before .before .before .before .before .args .t) (c .before .before .before .before .before .before .before .before .args .u))
+    (c .before .before .before .before .before .before .are-persons .result) (c .before .before .before .before .before .before .are-persons .ensures) (c .before .before .before .before .before .if1 .left) in
+    (c .before .before .before .before .before .before .before .before .pre .size, c .before .before .before .before .before .before .before .before .pre .tables, known .1)
+
+compare-requires : tie.Need-compare-requires
+compare-requires c κs = search needs
+
+returns-4 : tie.Need-returns-4
+unfolding declared inForce
+returns-4 c =
+    let known =
+    known-both (personDeclared (c .before .before .before .before .before .before .before .before .before .before .before .args .t) (c .before .before .before .before .before .before .before .before .before .before .before .args .s)) (personDeclared (c .before .before .before .before .before .before .before .before .before .before .before .args .t) (c .before .before .before .before .before .before .before .before .before .before .before .args .u))
+    (c .before .before .before .before .before .before .before .before .before .are-persons .result) (c .before .before .before .before .before .before .before .before .before .are-persons .ensures) (c .before .before .before .before .before .before .before .before .if1 .left) in
+    sym
+    (start-number _ _ (c .before .before .before .before .before .before .before .before .before .before .before .pre .tables) _ _ (and-both _ _ (known .0) (known .1))
+    ∙ number-none _ _ _ _ (implies-true (inForce (c .before .before .before .before .before .before .before .before .before .before .before .args .t) 0))
+    (passes _ _ (inl ((sym (c .before .before .before .before .before .bit82 .ensures) ∙ not-false _ (c .before .before .before .before .if3 .left)), rw (← c .before .before .current-level2 .ensures, ← c .before .before .before .current-level .ensures) (sym (c .before .compare .ensures) ∙ c .if4 .taken))))
+    (passes _ _ (inr (sym (c .before .before .before .before .before .before .before .bit8 .ensures) ∙ c .before .before .before .before .before .before .if2 .left))))
+
+returns-5 : tie.Need-returns-5
+unfolding declared inForce
+returns-5 c =
+    let known =
+    known-both (personDeclared (c .before .before .before .before .before .before .before .before .before .before .before .args .t) (c .before .before .before .before .before .before .before .before .before .before .before .args .s)) (personDeclared (c .before .before .before .before .before .before .before .before .before .before .before .args .t) (c .before .before .before .before .before .before .before .before .before .before .before .args .u))
+    (c .before .before .before .before .before .before .before .before .before .are-persons .result) (c .before .before .before .before .before .before .before .before .before .are-persons .ensures) (c .before .before .before .before .before .before .before .before .if1 .left) in
+    sym
+    (start-number _ _ (c .before .before .before .before .before .before .before .before .before .before .before .pre .tables) _ _ (and-both _ _ (known .0) (known .1))
+    ∙ number-level _ _ _ _ (implies-true (inForce (c .before .before .before .before .before .before .before .before .before .before .before .args .t) 0))
+    (refuses _ _ (sym (c .before .before .before .before .before .bit82 .ensures) ∙ not-false _ (c .before .before .before .before .if3 .left)) (rw (← c .before .before .current-level2 .ensures, ← c .before .before .before .current-level .ensures) (sym (c .before .compare .ensures) ∙ c .if4 .left))))
+
+pub judge-start-spec : {M : Type 1} → statement M
+judge-start-spec =
+    tie.close
+    (tie.spec
+    are-persons-requires
+    returns
+    bit8-requires
+    past-of-requires
+    judge-start-past-requires
+    returns-2
+    bit8-requires-2
+    returns-3
+    current-level-requires
+    current-level-requires-2
+    compare-requires
+    returns-4
+    returns-5)
