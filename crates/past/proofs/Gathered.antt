@@ -78,6 +78,7 @@ module _ (t : Tables) (H : Request → Bool) (s : ℕ) where
       same-past (sym (fold-start (loweredBy t H s) (personAt t s .level .0)))
       (sym (mask-none 64 _ (λ x l. any-start (usedOn t H s x)))) (sym (mask-none 64 _ (λ f l. any-start (openedOn t H s f))))
 
+  -- a right that was used on a folder was used by an access
   used-accessed : (x o : ℕ) → usedOn t H s x o ≡ true → accessed t H s o ≡ true
   unfolding usedOn accessed
   used-accessed x o e =
@@ -92,6 +93,7 @@ module _ (t : Tables) (H : Request → Bool) (s : ℕ) where
       (or-cases
       (did t H (read s o) && eqb (right t (read s o)) x || did t H (write s o) && eqb (right t (write s o)) x) _ e)
 
+  -- an access uses some right below 64
   accessed-used : (o : ℕ) → folderAt t o .kind < 16 → accessed t H s o ≡ true
       → (x : ℕ) × (x < 64) × (usedOn t H s x o ≡ true)
   unfolding usedOn accessed right
@@ -115,6 +117,7 @@ module _ (t : Tables) (H : Request → Bool) (s : ℕ) where
       ))
       (or-cases (did t H (read s o) || did t H (write s o)) _ e)
 
+  -- what a folder that the person did not access says: no right, no lower level, no firm
   unused : (x o : ℕ) → accessed t H s o ≡ false → usedOn t H s x o ≡ false
   unused x o n = false-intro (usedOn t H s x o) (λ u. false-elim (accessed t H s o) n (used-accessed x o u))
 
@@ -199,6 +202,7 @@ module _ (t : Tables) (h : List ℕ) (s : ℕ) (person : personDeclared t s ≡ 
       was-applied : (p : ℕ) → p < 16 → stepAt h s o p ≡ did t (setOf h) (step s p o)
       was-applied p n = sym (did-step t h s person p o n l ∙ rw d)
 
+  -- an undeclared folder counts as not accessed
   undeclared : (o : ℕ) → o < 128 → folderAt t o .declared ≡ false → accessed t (setOf h) s o ≡ false
   unfolding accessed
   undeclared o l d =
@@ -221,6 +225,7 @@ module _ (t : Tables) (h : List ℕ) (s : ℕ) (person : personDeclared t s ≡ 
       (λ n. absurd (some (rights-here o l d k ∙ mask-none 64 _ (λ x m. unused t (setOf h) s x o n))))
       (decide (accessed t (setOf h) s o))
 
+  -- the level and the rest after a declared folder
   level-here : (o level : ℕ) → o < 128 → folderAt t o .declared ≡ true
       → levelIf (bitAt h (index (read s o))) level (folderAt t o .level .0) ≡ loweredBy t (setOf h) s o level
   unfolding levelAfter
@@ -237,30 +242,45 @@ module _ (t : Tables) (h : List ℕ) (s : ℕ) (person : personDeclared t s ≡ 
   unfolding pastWith
   with-folder n l d = same-past (level-here n _ l d) refl refl
 
+  declared-step : (n : ℕ) → n < 128 → given t ≡ true → folderAt t n .declared ≡ true
+      → pastAfter (folderAt t n) h s n (pastBelow t (setOf h) s n) ≡ pastBelow t (setOf h) s (n + 1)
+  declared-step n l g d = ⊎-elim none some (decide (eqb (rightsOn (folderAt t n) h s n) 0))
+    where
+      before : Past
+      before = pastBelow t (setOf h) s n
+
+      kind : folderAt t n .kind < 16
+      kind = kind-below t g n l d
+
+      none : eqb (rightsOn (folderAt t n) h s n) 0 ≡ true
+          → pastAfter (folderAt t n) h s n before ≡ pastBelow t (setOf h) s (n + 1)
+      none e =
+          let zero = eqb-true _ 0 e in
+          after-zero (folderAt t n) h s n before d zero ∙ untouched t (setOf h) s n (no-right n l d kind zero)
+
+      some : eqb (rightsOn (folderAt t n) h s n) 0 ≡ false
+          → pastAfter (folderAt t n) h s n before ≡ pastBelow t (setOf h) s (n + 1)
+      some e =
+          let positive = eqb-false _ 0 e in
+          after-some (folderAt t n) h s n before d positive ∙ with-folder n l d
+          ∙ touched t (setOf h) s n _ (some-right n l d kind positive) (firm-below t g n l d) (rights-here n l d kind)
+
   -- a turn of the pass
   pub past-step : (n : ℕ) → n < 128 → given t ≡ true
       → pastAfter (folderAt t n) h s n (pastBelow t (setOf h) s n) ≡ pastBelow t (setOf h) s (n + 1)
   past-step n l g =
-      let before = pastBelow t (setOf h) s n in
-      ⊎-elim
-      (λ d. let k = kind-below t g n l d in ⊎-elim
-      (λ zero.
-      let none = eqb-true _ 0 zero in
-      after-zero (folderAt t n) h s n before d none ∙ untouched t (setOf h) s n (no-right n l d k none))
-      (λ some.
-      let used = eqb-false _ 0 some in
-      after-some (folderAt t n) h s n before d used ∙ with-folder n l d
-      ∙ touched t (setOf h) s n _ (some-right n l d k used) (firm-below t g n l d) (rights-here n l d k))
-      (decide (eqb (rightsOn (folderAt t n) h s n) 0)))
-      (λ d. after-undeclared (folderAt t n) h s n before d ∙ untouched t (setOf h) s n (undeclared n l d))
+      ⊎-elim (λ d. declared-step n l g d)
+      (λ d. after-undeclared (folderAt t n) h s n _ d ∙ untouched t (setOf h) s n (undeclared n l d))
       (decide (folderAt t n .declared))
 
 -- ---- the whole
 
+-- a test that is the same for every number
 any-and : (n : ℕ) (p : ℕ → Bool) (b : Bool) → anyBelow n (λ k. p k && b) ≡ anyBelow n p && b
 any-and n p true = any-ext n _ _ (λ k l. and-true (p k)) ∙ sym (and-true (anyBelow n p))
 any-and n p false = none-any n _ (λ k l. and-false (p k)) ∙ sym (and-false (anyBelow n p))
 
+-- a right was used by a start or on a folder
 used-whole : (t : Tables) (H : Request → Bool) (s x : ℕ)
     → anyBelow 64 (λ u. did t H (start s u)) && eqb 32 x || anyBelow 128 (usedOn t H s x) ≡ used t H s x
 unfolding used someRequest usedOn right

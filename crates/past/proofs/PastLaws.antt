@@ -1,5 +1,5 @@
--- What the answer of a pass says to those who ask for it: its level is the current level, bit x of its rights says whether right x was used,
--- bit f of its firms says whether firm f was opened, and the set bits number the rights and the firms. The answer holds sets below 64.
+-- What the answer of a pass says to those who ask for it: its level is the current level, bit x of its rights says whether right x was
+-- used, bit f of its firms whether firm f was opened, and there are as many set bits as such rights and firms.
 use Prim.Native.Nat.{ℕ, _<_}
 use mathlib.Core.Path.{_≡_, refl}
 use mathlib.Core.Bool.{Bool}

@@ -1,8 +1,11 @@
 // What a person did, gathered in one pass over the declared folders: the current level, the rights used and the firms opened.
-// Each function is called for a declared person, over tables that a load gives and a history of 18,944 bytes.
+// Each public function is called for a declared person, over tables that a load gives and a history of 18,944 bytes.
+// Indexes of bits (document 01, "History"), for person s: 128 * s + o for a read of folder o, 8192 more for a write,
+// 16384 + 64 * s + u for a start of person u, 20480 + 64 * (16 * o + p) + s for step p on folder o.
+// Rights: the folder's kind for a read, 16 + kind for a write, 32 for a start, 48 + p for step p.
 ghost use mathlib.Core.Path.{_≡_};
 ghost use mathlib.Core.Bool.{true};
-ghost use Prim.Native.Nat.{_+_, _*_, _<_};
+ghost use Prim.Native.Nat.{_*_, _<_};
 ghost use lib.ListN.{length};
 ghost use Rattle.bits.specs.Bits.{maskBelow};
 ghost use Rattle.bits.specs.Bounded.{anyBelow};
@@ -36,7 +39,7 @@ fn with_bit_if(add: bool, n: u64, k: usize) -> u64
     n
 }
 
-// A person's level after a folder, if the folder is read.
+// A person's level after a folder of a level, which lowers it if it was read.
 fn level_if(read: bool, level: Level, folder: Level) -> Level
     ensures { λ r. ⌜ r .0 ≡ levelIf read (level .0) (folder .0) ⌝ }
 {
@@ -46,7 +49,7 @@ fn level_if(read: bool, level: Level, folder: Level) -> Level
     level
 }
 
-// Whether the bit of index i, which the history has, is set.
+// Whether the bit of index i is set. The history has this bit.
 fn bit_within(h: &[u8], i: usize) -> bool
     requires { ⌜ (length (now h) ≡ historyBytes) × (i < 8 * historyBytes) ⌝ }
     ensures { λ r. ⌜ r ≡ bitAt (now (h .entry)) i ⌝ }
@@ -92,10 +95,10 @@ fn past_after(folder: Folder, h: &[u8], s: usize, o: usize, before: Past) -> Pas
     if rights == 0 {
         return before;
     }
-    let first = before.level;
-    let second = folder.level;
+    let level = before.level;
+    let folder_level = folder.level;
     Past {
-        level: level_if(read, first, second),
+        level: level_if(read, level, folder_level),
         rights: before.rights | rights,
         firms: bits::with_bit64(before.firms, folder.firm as usize),
     }
@@ -109,8 +112,8 @@ fn level_after(folder: Folder, h: &[u8], s: usize, o: usize, before: Level) -> L
     if !folder.declared {
         return before;
     }
-    let second = folder.level;
-    level_if(bit_within(h, 128 * s + o), before, second)
+    let folder_level = folder.level;
+    level_if(bit_within(h, 128 * s + o), before, folder_level)
 }
 
 // Whether a byte that holds starts by person s has a bit set.
@@ -145,7 +148,7 @@ fn has_started(t: Tables, h: &[u8], s: usize) -> bool
     false
 }
 
-// What person s did.
+// What person s did: every folder in turn, then the starts.
 pub fn past_of(t: Tables, h: &[u8], s: usize) -> Past
     requires { ⌜ (length (now h) ≡ historyBytes) × (given t ≡ true) × (personDeclared t s ≡ true) ⌝ }
     ensures { λ r. ⌜ r ≡ pastOf t (setOf (now (h .entry))) s ⌝ }
@@ -170,7 +173,7 @@ pub fn past_of(t: Tables, h: &[u8], s: usize) -> Past
     }
 }
 
-// The current level of person s.
+// The current level of person s. Only reads are looked at.
 pub fn current_level(t: Tables, h: &[u8], s: usize) -> Level
     requires { ⌜ (length (now h) ≡ historyBytes) × (given t ≡ true) × (personDeclared t s ≡ true) ⌝ }
     ensures { λ r. ⌜ r .0 ≡ currentLevel t (setOf (now (h .entry))) s ⌝ }

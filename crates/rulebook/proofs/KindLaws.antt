@@ -1,0 +1,91 @@
+-- The record of each kind: what the definitions look up for a kind that is known, and that a kind which is none of 0 to 6 is past the end
+-- of what they look it up in.
+use Prim.Native.Nat.{ℕ, suc, _≤_, zero-le}
+use native.Mathlib.Omega.{arith}
+use mathlib.Core.List.{List, [], _∷_}
+use mathlib.Core.Path.{_≡_}
+use lib.ListN.{getD, take, drop, List·getD-eq-default}
+use Rattle.policy.specs.Rulebook.{end, rules, firm, person, folder, role, pair, bodyLength, littleEndian, recordOf}
+use Rattle.rulebook.specs.declared.records.Reading.{Reading}
+use Rattle.rulebook.specs.Readings.{recordRead}
+
+-- ---- kinds above 6
+
+above : (k b : ℕ) → b ≤ k → (k ≡ b → ⊥) → suc b ≤ k
+above k b l n = omega arith
+
+module _
+    (k : ℕ)
+    (n0 : k ≡ 0 → ⊥)
+    (n1 : k ≡ 1 → ⊥)
+    (n2 : k ≡ 2 → ⊥)
+    (n3 : k ≡ 3 → ⊥)
+    (n4 : k ≡ 4 → ⊥)
+    (n5 : k ≡ 5 → ⊥)
+    (n6 : k ≡ 6 → ⊥)
+  where
+    pub past-six : 7 ≤ k
+    past-six = above k 6 (above k 5 (above k 4 (above k 3 (above k 2 (above k 1 (above k 0 zero-le n0) n1) n2) n3) n4) n5) n6
+
+-- no known kind is above 6
+pub too-high : {k n : ℕ} → n ≤ 6 → k ≡ n → 7 ≤ k → ⊥
+too-high l e h = omega arith
+
+pub length-past : (k : ℕ) → 7 ≤ k → bodyLength k ≡ 0
+unfolding bodyLength
+length-past k l = List·getD-eq-default (0 ∷ 1 ∷ 2 ∷ 3 ∷ 5 ∷ 9 ∷ 2 ∷ []) 0 l
+
+pub record-past : (k : ℕ) (body : List ℕ) → 7 ≤ k → recordOf k body ≡ end
+unfolding recordOf
+record-past k body l =
+    List·getD-eq-default (end
+    ∷ rules (getD body 0 0)
+    ∷ firm (getD body 0 0) (getD body 1 0)
+    ∷ person (getD body 0 0) (littleEndian (take 2 (drop 1 body)))
+    ∷ folder (getD body 0 0) (getD body 1 0) (getD body 2 0) (littleEndian (take 2 (drop 3 body)))
+    ∷ role (getD body 0 0) (littleEndian (take 8 (drop 1 body)))
+    ∷ pair (getD body 0 0) (getD body 1 0)
+    ∷ []) end l
+
+-- ---- the record of a reading, by its kind
+
+module _ (r : Reading) where
+  pub is-past : 7 ≤ r .kind → recordRead r ≡ end
+  unfolding recordRead
+  is-past l =
+      List·getD-eq-default (end
+      ∷ rules (r .mask)
+      ∷ firm (r .firm) (r .class)
+      ∷ person (r .person) (r .level)
+      ∷ folder (r .folder) (r .firm) (r .«folder_kind») (r .level)
+      ∷ role (r .role) (r .rights)
+      ∷ pair (r .p) (r .q)
+      ∷ []) end l
+
+  pub is-end : r .kind ≡ 0 → recordRead r ≡ end
+  unfolding recordRead
+  is-end e = rw e
+
+  pub is-rules : r .kind ≡ 1 → recordRead r ≡ rules (r .mask)
+  unfolding recordRead
+  is-rules e = rw e
+
+  pub is-firm : r .kind ≡ 2 → recordRead r ≡ firm (r .firm) (r .class)
+  unfolding recordRead
+  is-firm e = rw e
+
+  pub is-person : r .kind ≡ 3 → recordRead r ≡ person (r .person) (r .level)
+  unfolding recordRead
+  is-person e = rw e
+
+  pub is-folder : r .kind ≡ 4 → recordRead r ≡ folder (r .folder) (r .firm) (r .«folder_kind») (r .level)
+  unfolding recordRead
+  is-folder e = rw e
+
+  pub is-role : r .kind ≡ 5 → recordRead r ≡ role (r .role) (r .rights)
+  unfolding recordRead
+  is-role e = rw e
+
+  pub is-pair : r .kind ≡ 6 → recordRead r ≡ pair (r .p) (r .q)
+  unfolding recordRead
+  is-pair e = rw e

@@ -1,0 +1,11 @@
+pub mod TurnLaws
+pub mod MapLaws
+pub mod StepLaws
+pub mod ByteLaws
+pub mod KindLaws
+pub mod FieldLaws
+pub mod FormLaws
+pub mod NumberLaws
+pub mod LoadLaws
+pub mod RestLaws
+pub mod EntryLaws

@@ -1,0 +1,46 @@
+-- `records::body_length` gives the length that the definition looks up; past kind 6 both give 0.
+use mathlib.Core.Path.{sym}
+use Rattle.policy.specs.Rulebook.{bodyLength}
+use Rattle.rulebook.proofs.KindLaws.{past-six, length-past}
+use Rattle.rulebook.proofs.records.body_length.Statement.{statement}
+use Rattle.rulebook.proofs.records.body_length.Tie as tie
+
+returns : tie.Need-returns
+unfolding bodyLength
+returns c = rw (c .match .keys1)
+
+returns-2 : tie.Need-returns-2
+unfolding bodyLength
+returns-2 c = rw (c .match .keys2)
+
+returns-3 : tie.Need-returns-3
+unfolding bodyLength
+returns-3 c = rw (c .match .keys3)
+
+returns-4 : tie.Need-returns-4
+unfolding bodyLength
+returns-4 c = rw (c .match .keys4)
+
+returns-5 : tie.Need-returns-5
+unfolding bodyLength
+returns-5 c = rw (c .match .keys5)
+
+returns-6 : tie.Need-returns-6
+unfolding bodyLength
+returns-6 c = rw (c .match .keys6)
+
+returns-7 : tie.Need-returns-7
+unfolding bodyLength
+returns-7 c = rw (c .match .keys7)
+
+returns-8 : tie.Need-returns-8
+returns-8 c =
+    let rest = c .match .rest in
+    let above = past-six _ (rest .0 .0 .0 .0 .0 .0 .1) (rest .0 .0 .0 .0 .0 .1) (rest .0 .0 .0 .0 .1) (rest .0 .0 .0 .1) (rest .0 .0 .1)
+    (rest .0 .1) (rest .1) in
+    sym (length-past _ above)
+
+pub body-length-spec : {M : Type 1} → statement M
+body-length-spec =
+    tie.close
+    (tie.spec returns returns-2 returns-3 returns-4 returns-5 returns-6 returns-7 returns-8)

@@ -1,0 +1,132 @@
+// Loading a rulebook (document 01, "Rulebook"): the tables that its records declare, or the number and the offset of what refuses it.
+ghost use mathlib.Core.Path.{_≡_};
+ghost use Rattle.policy.specs.Rulebook.{refusedBook, ended, loadBook, given};
+ghost use Rattle.policy.specs.Calls.{restOf};
+use logic::both;
+use policy::Loaded;
+use policy::Tables;
+use records::Known;
+
+mod entries;
+mod logic;
+mod records;
+mod steps;
+
+// The numbers of what refuses a book, and 0 for a book that loads (document 01, the table of causes).
+pub const CUT: u8 = 1;
+
+pub const UNKNOWN_KIND: u8 = 2;
+
+pub const MISPLACED_RULES: u8 = 3;
+
+pub const OUT_OF_RANGE: u8 = 4;
+
+pub const DECLARED_BEFORE: u8 = 5;
+
+pub const FIRM_NOT_DECLARED: u8 = 6;
+
+pub const ENTERS_CREATE: u8 = 7;
+
+pub const CIRCLE: u8 = 8;
+
+pub const LOOSE_STEP: u8 = 9;
+
+// A refused book.
+fn refuse(number: u8, at: usize) -> Loaded
+    ensures { λ r. ⌜ r ≡ refusedBook number at ⌝ }
+{
+    let tables = entries::empty();
+    Loaded {
+        number: number,
+        offset: at,
+        tables: tables,
+    }
+}
+
+// The end record, after its checks.
+fn finish(at: usize, t: Tables) -> Loaded
+    ensures { λ r. ⌜ r ≡ ended at t ⌝ }
+{
+    let sets = t.steps;
+    if steps::has_circle(sets) {
+        return refuse(CIRCLE, at);
+    }
+    if steps::has_loose(sets) {
+        return refuse(LOOSE_STEP, at);
+    }
+    Loaded {
+        number: 0,
+        offset: at,
+        tables: t,
+    }
+}
+
+// Loads a book: its tables, or those of the empty book with the number and the offset of what refuses it.
+pub fn load(book: &[u8]) -> Loaded
+    ensures { λ r. ⌜ r ≡ loadBook (now (book .entry)) ⌝ }
+{
+    let mut t = entries::empty();
+    let mut at: usize = 0;
+    loop {
+        let r = records::read(book, at);
+        let kind = r.kind;
+        let firm = r.firm;
+        let person = r.person;
+        let folder = r.folder;
+        let role = r.role;
+        let p = r.p;
+        let known = Known {
+            firm: t.firms[firm].declared,
+            person: t.persons[person].declared,
+            folder: t.folders[folder].declared,
+            role: t.roles[role].declared,
+            steps: t.steps[p],
+        };
+        let number = records::record_number(r, known);
+        if number != 0 {
+            return refuse(number, at);
+        }
+        match kind {
+            0 => return finish(at, t),
+            1 => t.mask = r.mask,
+            2 => t.firms[firm] = entries::new_firm(r.class),
+            3 => t.persons[person] = entries::new_person(r.level),
+            4 => t.folders[folder] = entries::new_folder(r.firm as u8, r.folder_kind, r.level),
+            5 => t.roles[role] = entries::new_role(r.rights),
+            6 => t.steps[p] = bits::with_bit16(known.steps, r.q),
+            7..=255 => return refuse(UNKNOWN_KIND, at),
+        }
+        at = r.next;
+    }
+}
+
+// The part of a book after its end record, from which requests are read; empty for a refused book.
+pub fn rest(book: &[u8]) -> &[u8]
+    ensures { λ r. ⌜ now r ≡ restOf (now (book .entry)) ⌝ }
+{
+    let loaded = load(book);
+    if loaded.number != 0 {
+        let end = book.len();
+        return &book[end..];
+    }
+    let end = loaded.offset + 1;
+    &book[end..]
+}
+
+// Whether a load gives the tables.
+pub fn given(t: Tables) -> bool
+    ensures { λ r. ⌜ r ≡ given t ⌝ }
+{
+    let firms = t.firms;
+    let persons = t.persons;
+    let folders = t.folders;
+    let roles = t.roles;
+    let sets = t.steps;
+    let mut good = both(t.mask <= 15, entries::firms_given(firms));
+    good = both(good, entries::persons_given(persons));
+    good = both(good, entries::folders_given(firms, folders));
+    good = both(good, entries::roles_given(roles));
+    good = both(good, !steps::enters_create(sets));
+    good = both(good, !steps::has_circle(sets));
+    both(good, !steps::has_loose(sets))
+}
