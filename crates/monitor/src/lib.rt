@@ -1,21 +1,11 @@
 // The calls of the access monitor (document 01, "Requests and calls"). Each ends, on every input, in a published number; a call whose
 // own number is not 0 changes no byte lent to it.
 ghost use mathlib.Core.Path.{_≡_};
-ghost use mathlib.Core.Bool.{Bool};
-ghost use lib.Dec.{eqb};
+ghost use Prim.Native.Nat.{_<_};
+ghost use Rattle.policy.specs.Tables.{personDeclared};
 ghost use Rattle.policy.specs.Rulebook.{loadBook};
-ghost use Rattle.policy.specs.Request.{requestOf, setOf};
-ghost use Rattle.policy.specs.Calls.{
-  blankNumber,
-  blankHistory,
-  restOf,
-  judgeOver,
-  judgeNumber,
-  recordedIf,
-  putHistory,
-  standing as standingOf,
-};
-ghost use Rattle.judging.specs.Judging.{Ready};
+ghost use Rattle.policy.specs.Calls.{blankNumber, blankHistory, restOf, judgeNumber, standing as standingOf};
+ghost use Rattle.monitor.specs.Refused.{noStanding};
 use level::Level;
 use policy::Loaded;
 use policy::Standing;
@@ -60,46 +50,34 @@ pub fn judge(t: Tables, h: &[u8], request: &[u8]) -> u8
     judging::judge_bytes(t, h, request)
 }
 
-// Judges the request at the front of the bytes, and records it if it is granted: on tables and a history that passed their checks.
-fn put_ready(t: Tables, h: &mut [u8], request: &[u8]) -> u8
-    requires { ⌜ Ready t (now h) ⌝ }
-    ensures { λ r. ⌜
-        (r ≡ judgeOver t (setOf (now (h .entry))) (now (request .entry)))
-        × (now (h .exit) ≡ recordedIf (eqb r 0) (now (h .entry)) (requestOf (now (request .entry))))
-        ⌝ }
-{
-    let parsed = request::parse(request);
-    let number = judging::judge_parsed(t, h, parsed);
-    if number == judging::GRANTED {
-        history::set_bit(h, request::index(parsed));
-    }
-    number
-}
-
-// Judges the request at the front of the bytes, and records it if it is granted.
-pub fn put(t: Tables, h: &mut [u8], request: &[u8]) -> u8
-    ensures { λ r. ⌜
-        (r ≡ judgeNumber t (now (h .entry)) (now (request .entry)))
-        × (now (h .exit) ≡ putHistory t (now (h .entry)) (now (request .entry)))
-        ⌝ }
-{
-    if h.len() != history::BYTES {
-        return WRONG_LENGTH;
-    }
-    if !rulebook::given(t) {
-        return NOT_GIVEN;
-    }
-    put_ready(t, h, request)
-}
-
 // A refused standing.
-fn no_standing(number: u8) -> Standing {
+fn no_standing(number: u8) -> Standing
+    ensures { λ r. ⌜ r ≡ noStanding number ⌝ }
+{
     Standing {
         number,
         level: Level::LOWEST,
         rights: 0,
         firms: 0,
     }
+}
+
+// A byte as an index.
+fn wide(x: u8) -> usize
+    ensures { λ r. ⌜ (r ≡ x) × (r < 256) ⌝ }
+{
+    x as usize
+}
+
+// Whether person s is declared.
+fn is_person(t: Tables, s: usize) -> bool
+    ensures { λ r. ⌜ r ≡ personDeclared t s ⌝ }
+{
+    if s < 64 {
+        let e = t.persons[s];
+        return e.declared;
+    }
+    false
 }
 
 // A person's current level, the number of rights used and the number of firms opened.
@@ -112,14 +90,15 @@ pub fn standing(t: Tables, h: &[u8], person: u8) -> Standing
     if !rulebook::given(t) {
         return no_standing(NOT_GIVEN);
     }
-    let s = person as usize;
-    if !judging::is_person(t, s) {
+    let s = wide(person);
+    if !is_person(t, s) {
         return no_standing(judging::UNDECLARED);
     }
     let did = past::past_of(t, h, s);
+    let level = did.level;
     Standing {
         number: 0,
-        level: did.level,
+        level,
         rights: bits::count64(did.rights),
         firms: bits::count64(did.firms),
     }

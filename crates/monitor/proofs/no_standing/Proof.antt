@@ -1,0 +1,13 @@
+use mathlib.Core.Path.{refl}
+use Rattle.monitor.specs.Refused.{noStanding}
+use Rattle.monitor.proofs.no_standing.Statement.{statement}
+use Rattle.monitor.proofs.no_standing.Tie as tie
+use Rattle.monitor.proofs.no_standing.Reads as reads
+use Rattle.monitor.proofs.no_standing.Lts as lts
+
+returns : tie.Need-returns
+unfolding noStanding
+returns c = refl
+
+pub no-standing-spec : {M : Type 1} → statement M
+no-standing-spec = tie.close (tie.spec returns)
