@@ -4,7 +4,15 @@ ghost use mathlib.Core.Path.{_≡_};
 ghost use Prim.Native.Nat.{_<_};
 ghost use Rattle.policy.specs.Tables.{personDeclared};
 ghost use Rattle.policy.specs.Rulebook.{loadBook};
-ghost use Rattle.policy.specs.Calls.{blankNumber, blankHistory, restOf, judgeNumber, standing as standingOf};
+ghost use Rattle.policy.specs.Checks.{ladder};
+ghost use Rattle.policy.specs.Calls.{
+  blankNumber,
+  blankHistory,
+  restOf,
+  callChecks,
+  judgeNumber,
+  standing as standingOf,
+};
 ghost use Rattle.monitor.specs.Refused.{noStanding};
 use level::Level;
 use policy::Loaded;
@@ -12,6 +20,8 @@ use policy::Standing;
 use policy::Tables;
 
 // The published numbers of a call that takes tables and a history.
+pub const PASSED: u8 = 0;
+
 pub const WRONG_LENGTH: u8 = 10;
 
 pub const NOT_GIVEN: u8 = 11;
@@ -37,15 +47,26 @@ pub fn rest(book: &[u8]) -> &[u8]
     rulebook::rest(book)
 }
 
-// Judges the request at the front of the bytes, and records nothing.
-pub fn judge(t: Tables, h: &[u8], request: &[u8]) -> u8
-    ensures { λ r. ⌜ r ≡ judgeNumber t (now (h .entry)) (now (request .entry)) ⌝ }
+// The checks that every call on tables and a history starts with: 0 where they pass.
+fn checked(t: Tables, h: &[u8]) -> u8
+    ensures { λ r. ⌜ r ≡ ladder (callChecks t (now (h .entry))) ⌝ }
 {
     if h.len() != history::BYTES {
         return WRONG_LENGTH;
     }
-    if !rulebook::given(t) {
-        return NOT_GIVEN;
+    if rulebook::given(t) {
+        return PASSED;
+    }
+    NOT_GIVEN
+}
+
+// Judges the request at the front of the bytes, and records nothing.
+pub fn judge(t: Tables, h: &[u8], request: &[u8]) -> u8
+    ensures { λ r. ⌜ r ≡ judgeNumber t (now (h .entry)) (now (request .entry)) ⌝ }
+{
+    let number = checked(t, h);
+    if number != PASSED {
+        return number;
     }
     judging::judge_bytes(t, h, request)
 }
@@ -84,11 +105,9 @@ fn is_person(t: Tables, s: usize) -> bool
 pub fn standing(t: Tables, h: &[u8], person: u8) -> Standing
     ensures { λ r. ⌜ r ≡ standingOf t (now (h .entry)) person ⌝ }
 {
-    if h.len() != history::BYTES {
-        return no_standing(WRONG_LENGTH);
-    }
-    if !rulebook::given(t) {
-        return no_standing(NOT_GIVEN);
+    let number = checked(t, h);
+    if number != PASSED {
+        return no_standing(number);
     }
     let s = wide(person);
     if !is_person(t, s) {
