@@ -16,6 +16,8 @@ use Rattle.rulebook.specs.declared.records.Reading.{Reading}
 use Rattle.rulebook.specs.Readings.{recordRead, Indexes, FieldsRead}
 use Rattle.rulebook.proofs.KindLaws.{record-past, is-past, is-end, is-rules, is-firm, is-person, is-folder, is-role, is-pair}
 
+-- ---- the bytes of a body that starts at a position
+
 module _ (s : List ℕ) (at : ℕ) where
   first : getD (drop at s) 0 0 ≡ getD s at 0
   first = getD-drop at s 0 0 ∙ ap (λ (i : ℕ). getD s i 0) (add-zero at)
@@ -29,16 +31,21 @@ module _ (s : List ℕ) (at : ℕ) where
   number-from : (n i : ℕ) → littleEndian (take n (drop i (drop at s))) ≡ littleEndian (take n (drop (at + i) s))
   number-from n i = ap (λ (l : List ℕ). littleEndian (take n l)) (drop-drop i at s)
 
+-- ---- ranges
+
 pub in-tables : {r : Reading} → r .firm < 64 → r .person < 64 → r .folder < 128 → r .role < 32 → r .p < 16 → r .q < 16 → Indexes r
 in-tables f s o k p q = record { firm = f; person = s; folder = o; role = k; step = p; enabled = q }
 
 up-to : (n m : ℕ) → leb n m ≡ true → n < m + 1
 up-to n m h = omega (arith, leb-true n m h)
 
+-- ---- kind by kind
+
 module _ (s : List ℕ) (at : ℕ) (r : Reading) (unrefused : r .number ≡ 0) where
-  made : (k : ℕ) (x : Record) → r .kind ≡ k → recordRead r ≡ x → recordOf (r .kind) (drop at s) ≡ x
-      → (inRange x ≡ true → Indexes r) → FieldsRead (r .kind) (drop at s) r
-  made k x e here there ranges =
+  -- the record that the reading and the body both are
+  made : (x : Record) → recordRead r ≡ x → recordOf (r .kind) (drop at s) ≡ x → (inRange x ≡ true → Indexes r)
+      → FieldsRead (r .kind) (drop at s) r
+  made x here there ranges =
       record {
         unrefused = unrefused;
         same-kind = refl;
@@ -47,22 +54,22 @@ module _ (s : List ℕ) (at : ℕ) (r : Reading) (unrefused : r .number ≡ 0) w
       }
 
   pub past-fields : 7 ≤ r .kind → Indexes r → FieldsRead (r .kind) (drop at s) r
-  past-fields l i = made (r .kind) end refl (is-past r l) (record-past (r .kind) (drop at s) l) (λ h. i)
+  past-fields l i = made end (is-past r l) (record-past (r .kind) (drop at s) l) (λ h. i)
 
   pub end-fields : r .kind ≡ 0 → Indexes r → FieldsRead (r .kind) (drop at s) r
   unfolding recordOf
-  end-fields e i = made 0 end e (is-end r e) (rw e) (λ h. i)
+  end-fields e i = made end (is-end r e) (rw e) (λ h. i)
 
   pub rules-fields : r .kind ≡ 1 → Indexes r → r .mask ≡ getD s at 0 → FieldsRead (r .kind) (drop at s) r
   unfolding recordOf
   rules-fields e i mask =
-      made 1 (rules (r .mask)) e (is-rules r e) (rw e (ap rules (first s at ∙ sym mask))) (λ h. i)
+      made (rules (r .mask)) (is-rules r e) (rw e (ap rules (first s at ∙ sym mask))) (λ h. i)
 
   pub firm-fields : r .kind ≡ 2 → (r .firm < 64 → Indexes r) → r .firm ≡ getD s at 0 → r .class ≡ getD s (at + 1) 0
       → FieldsRead (r .kind) (drop at s) r
   unfolding recordOf inRange
   firm-fields e i number class =
-      made 2 (firm (r .firm) (r .class)) e (is-firm r e)
+      made (firm (r .firm) (r .class)) (is-firm r e)
       (rw e (ap₂ firm (first s at ∙ sym number) (second s at ∙ sym class)))
       (λ h. i (up-to (r .firm) 63 (and-left (leb (r .firm) 63) (leb (r .class) 31) h)))
 
@@ -70,7 +77,7 @@ module _ (s : List ℕ) (at : ℕ) (r : Reading) (unrefused : r .number ≡ 0) w
       → r .level ≡ littleEndian (take 2 (drop (at + 1) s)) → FieldsRead (r .kind) (drop at s) r
   unfolding recordOf inRange
   person-fields e i number level =
-      made 3 (person (r .person) (r .level)) e (is-person r e)
+      made (person (r .person) (r .level)) (is-person r e)
       (rw e (ap₂ person (first s at ∙ sym number) (number-from s at 2 1 ∙ sym level)))
       (λ h. i (up-to (r .person) 63 h))
 
@@ -82,7 +89,7 @@ module _ (s : List ℕ) (at : ℕ) (r : Reading) (unrefused : r .number ≡ 0) w
       let o = r .folder in
       let f = r .firm in
       let k = r .«folder_kind» in
-      made 4 (folder o f k (r .level)) e (is-folder r e)
+      made (folder o f k (r .level)) (is-folder r e)
       (rw (e, first s at, ← number, second s at, ← of-firm, third s at, ← kind, number-from s at 2 3, ← level))
       (λ h.
       let numbers = and-left (leb o 127 && leb f 63) (leb k 15) h in
@@ -92,7 +99,7 @@ module _ (s : List ℕ) (at : ℕ) (r : Reading) (unrefused : r .number ≡ 0) w
       → r .rights ≡ littleEndian (take 8 (drop (at + 1) s)) → FieldsRead (r .kind) (drop at s) r
   unfolding recordOf inRange
   role-fields e i number rights =
-      made 5 (role (r .role) (r .rights)) e (is-role r e)
+      made (role (r .role) (r .rights)) (is-role r e)
       (rw e (ap₂ role (first s at ∙ sym number) (number-from s at 8 1 ∙ sym rights)))
       (λ h. i (up-to (r .role) 31 h))
 
@@ -100,7 +107,7 @@ module _ (s : List ℕ) (at : ℕ) (r : Reading) (unrefused : r .number ≡ 0) w
       → FieldsRead (r .kind) (drop at s) r
   unfolding recordOf inRange
   pair-fields e i p q =
-      made 6 (pair (r .p) (r .q)) e (is-pair r e) (rw e (ap₂ pair (first s at ∙ sym p) (second s at ∙ sym q)))
+      made (pair (r .p) (r .q)) (is-pair r e) (rw e (ap₂ pair (first s at ∙ sym p) (second s at ∙ sym q)))
       (λ h.
       i (up-to (r .p) 15 (and-left (leb (r .p) 15) (leb (r .q) 15) h))
       (up-to (r .q) 15 (and-right (leb (r .p) 15) (leb (r .q) 15) h)))

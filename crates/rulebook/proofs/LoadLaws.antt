@@ -19,6 +19,7 @@ use Rattle.rulebook.specs.declared.records.Reading.{Reading}
 use Rattle.rulebook.specs.Readings.{recordRead, WholeRead, ReadAt, knownOf, numberOf, numberAt}
 use Rattle.rulebook.proofs.NumberLaws.{number-is, read-whole}
 
+-- some number of turns over the bytes from an offset on, after the tables t, gives what the whole book gives
 pub record Left (book : List ℕ) (at : ℕ) (t : Tables) : Type 0 where
   pub turns : ℕ
   pub enough : length book ≤ at + turns

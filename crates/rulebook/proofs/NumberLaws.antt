@@ -57,6 +57,7 @@ module _ (t : Tables) (r : Reading) (i : Indexes r) where
   stands (suc (suc (suc (suc (suc (suc zero)))))) e = rw (is-pair r e)
   stands (suc (suc (suc (suc (suc (suc (suc k))))))) e = rw (is-past r (omega arith))
 
+-- the checks on the tables, as the definition lists them last
 tableChecks : Tables → Record → List Check
 tableChecks t x =
     (not (declaredBefore t x) else 5) ∷ (firmStands t x else 6) ∷ (not (entersCreate x) else 7) ∷ []
@@ -81,13 +82,14 @@ form-first true true false d others = refl
 form-first true false c d others = refl
 form-first false b c d others = refl
 
+-- the definition's number, by the checks without the tables and those on them
 split-number : (book : List ℕ) (at : ℕ) (t : Tables)
     → numberAt book at t
     ≡ cond (eqb (formNumber book at) 0)
     (ladder (tableChecks t (recordOf (getD book at 0) (drop (at + 1) book))))
     (formNumber book at)
 unfolding numberAt formNumber recordChecks formChecks tableChecks
-split-number book at t = by (ltb at (length book)) refl
+split-number book at t = by (ltb at (length book))
   where
     kind : ℕ
     kind = getD book at 0
@@ -95,15 +97,15 @@ split-number book at t = by (ltb at (length book)) refl
     body : List ℕ
     body = drop (at + 1) book
 
-    by : (b : Bool) → ltb at (length book) ≡ b
+    by : (b : Bool)
         → cond b (ladder (recordChecks at t kind body)) 1
         ≡ cond (eqb (cond b (ladder (formChecks at kind body)) 1) 0)
         (ladder (tableChecks t (recordOf kind body)))
         (cond b (ladder (formChecks at kind body)) 1)
-    by true e =
+    by true =
         form-first (leb kind 6) (Bool·beq (eqb kind 1) (eqb at 0)) (leb (bodyLength kind) (length body))
         (inRange (recordOf kind body)) (tableChecks t (recordOf kind body))
-    by false e = refl
+    by false = refl
 
 same-where : (b : Bool) (x y z : ℕ) → (b ≡ true → x ≡ y) → cond b x z ≡ cond b y z
 same-where true x y z h = h refl

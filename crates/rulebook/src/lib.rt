@@ -12,7 +12,7 @@ mod logic;
 mod records;
 mod steps;
 
-// The numbers of what refuses a book, and 0 for a book that loads (document 01, the table of causes).
+// What refuses a book (document 01, the table of causes); the number of a book that loads is 0.
 pub const CUT: u8 = 1;
 
 pub const UNKNOWN_KIND: u8 = 2;

@@ -53,7 +53,6 @@ loop-again c =
 returns : tie.Need-returns Inv-loop μ-loop
 unfolding looseIn
 returns c =
-    let sets = c .before .before .before .args .t1 in
     let end : c .before .loop .p ≡ 16 = omega arith in
     c .before .loop .inv .1 ∙ rw (end, c .before .before .enabled .ensures)
 
