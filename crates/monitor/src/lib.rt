@@ -11,11 +11,13 @@ ghost use Rattle.policy.specs.Calls.{
   restOf,
   callChecks,
   judgeNumber,
+  putHistory,
   standing as standingOf,
 };
-ghost use Rattle.monitor.specs.Refused.{noStanding};
+ghost use Rattle.monitor.specs.Refused.{noStanding, noRun, RunIs};
 use level::Level;
 use policy::Loaded;
+use policy::Ran;
 use policy::Standing;
 use policy::Tables;
 
@@ -25,6 +27,8 @@ pub const PASSED: u8 = 0;
 pub const WRONG_LENGTH: u8 = 10;
 
 pub const NOT_GIVEN: u8 = 11;
+
+pub const TOO_FEW_ANSWERS: u8 = 18;
 
 // Makes a history blank.
 pub fn blank(h: &mut [u8]) -> u8
@@ -69,6 +73,52 @@ pub fn judge(t: Tables, h: &[u8], request: &[u8]) -> u8
         return number;
     }
     judging::judge_bytes(t, h, request)
+}
+
+// Judges the request at the front of the bytes, and records it if it is granted.
+pub fn put(t: Tables, h: &mut [u8], request: &[u8]) -> u8
+    ensures { λ r. ⌜
+        (r ≡ judgeNumber t (now (h .entry)) (now (request .entry)))
+        × (now (h .exit) ≡ putHistory t (now (h .entry)) (now (request .entry)))
+        ⌝ }
+{
+    let number = checked(t, h);
+    if number != PASSED {
+        return number;
+    }
+    running::put_ready(t, h, request)
+}
+
+// A refused run.
+fn no_run(number: u8) -> Ran
+    ensures { λ r. ⌜ r ≡ noRun number ⌝ }
+{
+    Ran {
+        number: number,
+        granted: 0,
+        refused: 0,
+    }
+}
+
+// Puts the requests of the bytes one after another, and writes one answer byte for each.
+pub fn run(t: Tables, h: &mut [u8], requests: &[u8], answers: &mut [u8]) -> Ran
+    ensures { λ r. ⌜
+        RunIs t (now (h .entry)) (now (requests .entry)) (now (answers .entry)) r (now (h .exit)) (now (answers .exit))
+        ⌝ }
+{
+    let number = checked(t, h);
+    if number != PASSED {
+        return no_run(number);
+    }
+    if answers.len() < running::answers_due(requests) {
+        return no_run(TOO_FEW_ANSWERS);
+    }
+    let counts = running::run_ready(t, h, requests, answers);
+    Ran {
+        number: PASSED,
+        granted: counts.granted,
+        refused: counts.refused,
+    }
 }
 
 // A refused standing.

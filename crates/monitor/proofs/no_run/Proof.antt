@@ -1,0 +1,13 @@
+use mathlib.Core.Path.{refl}
+use Rattle.monitor.specs.Refused.{noRun}
+use Rattle.monitor.proofs.no_run.Statement.{statement}
+use Rattle.monitor.proofs.no_run.Tie as tie
+use Rattle.monitor.proofs.no_run.Reads as reads
+use Rattle.monitor.proofs.no_run.Lts as lts
+
+returns : tie.Need-returns
+unfolding noRun
+returns c = refl
+
+pub no-run-spec : {M : Type 1} → statement M
+no-run-spec = tie.close (tie.spec returns)

@@ -1,0 +1,39 @@
+use mathlib.Core.Path.{sym, _∙_}
+use Rattle.monitor.proofs.CallLaws.{passed-ready, judge-refused, judge-ready, put-refused, put-ready}
+use borrow.Author.Needs.{needs}
+use Rattle.monitor.proofs.put.Statement.{statement}
+use Rattle.monitor.proofs.put.Tie as tie
+use Rattle.monitor.proofs.put.Reads as reads
+use Rattle.monitor.proofs.put.Lts as lts
+use Rattle.monitor.proofs.checked.Reads as checked-reads
+use Rattle.running.proofs.put_ready.Reads as put-ready-reads
+
+checked-requires : tie.Need-checked-requires
+checked-requires c κs = search needs
+
+same-length : tie.Need-same-length
+same-length c = search needs
+
+returns : tie.Need-returns
+returns c = (
+  judge-refused _ _ _ (c .before .checked .result) (c .before .checked .ensures) (c .if1 .taken),
+  put-refused _ _ _ (c .before .checked .result) (c .before .checked .ensures) (c .if1 .taken),
+)
+
+put-ready-requires : tie.Need-put-ready-requires
+put-ready-requires c κs = passed-ready _ _ (sym (c .before .before .checked .ensures) ∙ c .before .if1 .left)
+
+same-length-2 : tie.Need-same-length-2
+same-length-2 c = search needs
+
+returns-2 : tie.Need-returns-2
+returns-2 c =
+    let ready = passed-ready _ _ (sym (c .before .before .before .before .before .checked .ensures) ∙ c .before .before .before .before .if1 .left) in (
+      c .before .before .put-ready .ensures .0 ∙ judge-ready _ _ _ ready,
+      c .before .before .put-ready .ensures .1 ∙ put-ready _ _ _ ready (c .before .before .put-ready .result) (c .before .before .put-ready .ensures .0),
+    )
+
+pub put-spec : {M : Type 1} → statement M
+put-spec =
+    tie.close
+    (tie.spec checked-requires same-length returns put-ready-requires same-length-2 returns-2)

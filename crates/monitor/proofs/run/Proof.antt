@@ -1,0 +1,67 @@
+use mathlib.Core.Path.{sym, _∙_}
+use Rattle.monitor.proofs.CallLaws.{passed-ready, run-stopped, run-without-room, run-done}
+use borrow.Author.Needs.{needs}
+use Rattle.monitor.proofs.run.Statement.{statement}
+use Rattle.monitor.proofs.run.Tie as tie
+use Rattle.monitor.proofs.run.Reads as reads
+use Rattle.monitor.proofs.run.Lts as lts
+use Rattle.monitor.proofs.checked.Reads as checked-reads
+use Rattle.monitor.proofs.no_run.Reads as no-run-reads
+use Rattle.running.proofs.answers_due.Reads as answers-due-reads
+use Rattle.running.proofs.run_ready.Reads as run-ready-reads
+
+checked-requires : tie.Need-checked-requires
+checked-requires c κs = search needs
+
+no-run-requires : tie.Need-no-run-requires
+no-run-requires c κs = search needs
+
+same-length : tie.Need-same-length
+same-length c = search needs
+
+returns : tie.Need-returns
+returns c = rw (c .no-run .ensures) (run-stopped _ _ _ _ (c .before .before .checked .result) (c .before .before .checked .ensures) (c .before .if1 .taken))
+
+answers-due-requires : tie.Need-answers-due-requires
+answers-due-requires c κs = search needs
+
+no-run-requires-2 : tie.Need-no-run-requires-2
+no-run-requires-2 c κs = search needs
+
+same-length-2 : tie.Need-same-length-2
+same-length-2 c = search needs
+
+returns-2 : tie.Need-returns-2
+returns-2 c = rw (c .no-run2 .ensures) (run-without-room _ _ _ _ (sym (c .before .before .before .before .checked .ensures) ∙ c .before .before .before .if1 .left) (rw (← c .before .before .answers-due .ensures) (c .before .if2 .taken)))
+
+run-ready-requires : tie.Need-run-ready-requires
+run-ready-requires c κs = (passed-ready _ _ (sym (c .before .before .before .before .before .checked .ensures) ∙ c .before .before .before .before .if1 .left), rw (← c .before .before .before .answers-due .ensures) (c .before .before .if2 .left))
+
+same-length-3 : tie.Need-same-length-3
+same-length-3 c = search needs
+
+same-length-4 : tie.Need-same-length-4
+same-length-4 c = search needs
+
+returns-3 : tie.Need-returns-3
+returns-3 c =
+    let done = c .before .before .before .before .run-ready .ensures in
+    run-done _ _ _ _ (sym (c .before .before .before .before .before .before .before .before .before .before .checked .ensures) ∙ c .before .before .before .before .before .before .before .before .before .if1 .left) (rw (← c .before .before .before .before .before .before .before .before .answers-due .ensures) (c .before .before .before .before .before .before .before .if2 .left)) _ _ _ _
+    (done .granted) (done .refused) (done .history) (done .answers)
+
+pub run-spec : {M : Type 1} → statement M
+run-spec =
+    tie.close
+    (tie.spec
+    checked-requires
+    no-run-requires
+    same-length
+    returns
+    answers-due-requires
+    no-run-requires-2
+    same-length-2
+    returns-2
+    run-ready-requires
+    same-length-3
+    same-length-4
+    returns-3)

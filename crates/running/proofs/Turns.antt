@@ -1,0 +1,130 @@
+-- A run, turn by turn. What a whole run gives splits into what is written so far and what the rest of the requests gives on the history so
+-- far; a put moves its number from the second part to the first, and at the end nothing is left of the second.
+use Prim.Native.Nat.{ℕ, _+_, _-_, _≤_, _<_}
+use native.Mathlib.Numerals.{add-one}
+use native.Mathlib.Omega.{arith}
+use mathlib.Core.Path.{_≡_, refl, sym, ap, _∙_}
+use mathlib.Core.Logic.{⊎-elim}
+use mathlib.Core.Bool.{Bool, true, false, cond}
+use mathlib.Core.List.{List, [], _∷_, _++_, append-nil, append-assoc}
+use mathlib.Core.Option.{Option, none, some}
+use lib.Dec.{eqb}
+use lib.ListN.{length, set, drop, length-set, length-append}
+use lib.Seq.{drop-cons, set-append-seam}
+use Rattle.bits.proofs.Booleans.{decide}
+use Rattle.policy.specs.declared.Tables.{Tables}
+use Rattle.policy.specs.History.{withBitAt}
+use Rattle.policy.specs.Request.{Request, requestOf, recorded}
+use Rattle.policy.specs.Calls.{
+  judgeNumber,
+  recordedIf,
+  putHistory,
+  putNumbers,
+  putHistories,
+  callsOf,
+  answersDue,
+  grantedIn,
+  refusedIn,
+}
+use Rattle.policy.proofs.Runs.{numbers-length}
+use Rattle.judging.specs.Judging.{Ready}
+use Rattle.running.specs.Running.{runNumbers, Turned, Finished}
+use Rattle.running.proofs.Records.{calls-at, none-left, none-due}
+
+-- ---- one put
+
+recorded-length : (b : Bool) (h : List ℕ) (r : Option Request) → length (recordedIf b h r) ≡ length h
+unfolding recordedIf recorded withBitAt
+recorded-length false h r = refl
+recorded-length true h none = refl
+recorded-length true h (some r) = length-set h _ _
+
+pub ready-put : (t : Tables) (h bytes : List ℕ) → Ready t h → Ready t (putHistory t h bytes)
+unfolding putHistory
+ready-put t h bytes ready =
+    record { tables = ready .tables; size = recorded-length _ h (requestOf bytes) ∙ ready .size }
+
+-- ---- the counts
+
+pub granted-one : (n g : ℕ) → g ≡ cond (eqb n 0) 1 0 → g ≤ 1
+granted-one n g e = rw e (⊎-elim (λ t. rw t (omega arith)) (λ f. rw f (omega arith)) (decide (eqb n 0)))
+
+granted-more : (l : List ℕ) (n : ℕ) → grantedIn (l ++ n ∷ []) ≡ grantedIn l + cond (eqb n 0) 1 0
+unfolding grantedIn
+granted-more [] n = omega arith
+granted-more (m ∷ l) n = omega (arith, granted-more l n)
+
+counted : (l : List ℕ) → grantedIn l + refusedIn l ≡ length l
+unfolding grantedIn refusedIn
+counted [] = refl
+counted (n ∷ l) = let rest = counted l in ⊎-elim (λ e. rw e (omega arith)) (λ e. rw e (omega arith)) (decide (eqb n 0))
+
+-- ---- the answers written
+
+written-more : (l answers : List ℕ) (i n : ℕ) → length l ≡ i → i < length answers
+    → set (l ++ drop i answers) i n ≡ (l ++ n ∷ []) ++ drop (i + 1) answers
+written-more l answers i n e below =
+    rw (add-one, drop-cons answers i 0 below, append-assoc, ← e) (set-append-seam l _ _ n)
+
+-- ---- a run so far
+
+-- the history and the answers after i puts, of which some are granted, with the requests from a place on left
+pub record Done (t : Tables) (h₀ requests answers₀ : List ℕ) (at i granted : ℕ) (h answers : List ℕ) : Type 0 where
+  pub written : List ℕ
+  pub histories : putHistories t h₀ (callsOf requests) ≡ putHistories t h (callsOf (drop at requests))
+  pub numbers : runNumbers t h₀ requests ≡ written ++ runNumbers t h (drop at requests)
+  pub many : length written ≡ i
+  pub zeros : granted ≡ grantedIn written
+  pub bytes : answers ≡ written ++ drop i answers₀
+  pub ready : Ready t h
+
+pub done-none : {t : Tables} {h₀ requests answers₀ : List ℕ} → Ready t h₀ → Done t h₀ requests answers₀ 0 0 0 h₀ answers₀
+unfolding grantedIn
+done-none ready =
+    record { written = []; histories = refl; numbers = refl; many = refl; zeros = refl; bytes = refl; ready = ready }
+
+module _ {t : Tables} {h₀ requests answers₀ : List ℕ} {at i granted : ℕ} {h answers : List ℕ}
+    (done : Done t h₀ requests answers₀ at i granted h answers) where
+  -- no more are granted than put
+  pub done-granted : granted ≤ i
+  done-granted = omega (arith, done .zeros, done .many, counted (done .written))
+
+  -- the answers due are those written and those of the rest
+  pub done-due : answersDue requests ≡ i + answersDue (drop at requests)
+  unfolding answersDue
+  done-due =
+      sym (numbers-length t h₀ (callsOf requests)) ∙ ap length (done .numbers) ∙ length-append (done .written) _
+      ∙ rw (done .many, numbers-length t h (callsOf (drop at requests)))
+
+  -- one put more
+  pub done-more : {n next g : ℕ} {after : List ℕ} → at < length requests → i < length answers₀
+      → Turned t h (drop at requests) n next after → g ≡ cond (eqb n 0) 1 0
+      → Done t h₀ requests answers₀ (at + next) (i + 1) (granted + g) after (set answers i n)
+  unfolding putHistories putNumbers
+  done-more {n} below room turn one =
+      let calls = calls-at requests at below in
+      rw (turn .history, turn .onward, one)
+      (record {
+        written = done .written ++ n ∷ [];
+        histories = done .histories ∙ rw calls;
+        numbers = done .numbers ∙ rw (calls, append-assoc, turn .judged);
+        many = length-append (done .written) (n ∷ []) ∙ rw (done .many);
+        zeros = rw (granted-more (done .written) n, done .zeros);
+        bytes = rw (done .bytes) (written-more (done .written) answers₀ i n (done .many) room);
+        ready = ready-put t h (drop at requests) (done .ready);
+      })
+
+  -- no put more
+  pub done-all : length requests ≤ at → Finished t h₀ requests answers₀ granted (i - granted) h answers
+  unfolding putHistories putNumbers
+  done-all end =
+      let none = none-left requests at end in
+      let all : runNumbers t h₀ requests ≡ done .written = done .numbers ∙ rw none (append-nil (done .written)) in
+      let both = counted (done .written) in
+      let due : answersDue requests ≡ i = omega (arith, done-due, none-due requests at end) in
+      record {
+        granted = rw all (done .zeros);
+        refused = rw all (omega (arith, done .many, done .zeros));
+        history = sym (done .histories ∙ rw none);
+        answers = rw (all, due) (done .bytes);
+      }

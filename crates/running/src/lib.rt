@@ -1,0 +1,131 @@
+// Putting requests, one or a run of them (document 01, "Requests and calls"), on tables that a load gives and a history of 18,944 bytes.
+ghost use mathlib.Core.Path.{_≡_};
+ghost use mathlib.Core.Bool.{cond};
+ghost use Prim.Native.Nat.{_≤_};
+ghost use lib.Dec.{eqb};
+ghost use lib.ListN.{length};
+ghost use Rattle.policy.specs.Request.{requestOf, setOf};
+ghost use Rattle.policy.specs.Calls.{judgeOver, recordedIf, answersDue};
+ghost use Rattle.request.specs.Parsed.{asRequest};
+ghost use Rattle.judging.specs.Judging.{Ready, parsedNumber};
+ghost use Rattle.running.specs.Running.{nextAfter, nextRecord, Turned, Finished};
+use policy::Tables;
+use request::Parsed;
+
+// Judges a parsed request, and records it where it is granted.
+fn put_parsed(t: Tables, h: &mut [u8], parsed: Parsed) -> u8
+    requires { ⌜ Ready t (now h) ⌝ }
+    ensures { λ r. ⌜
+        (r ≡ parsedNumber t (setOf (now (h .entry))) parsed)
+        × (now (h .exit) ≡ recordedIf (eqb r 0) (now (h .entry)) (asRequest parsed))
+        ⌝ }
+{
+    let number = judging::judge_parsed(t, h, parsed);
+    if number == judging::GRANTED {
+        history::set_bit(h, request::index(parsed));
+    }
+    number
+}
+
+// Judges the request at the front of the bytes, and records it where it is granted.
+pub fn put_ready(t: Tables, h: &mut [u8], request: &[u8]) -> u8
+    requires { ⌜ Ready t (now h) ⌝ }
+    ensures { λ r. ⌜
+        (r ≡ judgeOver t (setOf (now (h .entry))) (now (request .entry)))
+        × (now (h .exit) ≡ recordedIf (eqb r 0) (now (h .entry)) (requestOf (now (request .entry))))
+        ⌝ }
+{
+    let parsed = request::parse(request);
+    put_parsed(t, h, parsed)
+}
+
+// How far on the next record stands: by the length of this one, or by all the bytes left where it is unknown or cut, since it ends a run.
+fn next_after(parsed: Parsed, left: usize) -> usize
+    ensures { λ r. ⌜ r ≡ nextAfter (asRequest parsed) left ⌝ }
+{
+    let length = request::record_length(parsed);
+    if length == 0 {
+        return left;
+    }
+    length
+}
+
+// How far on the record after the one at the front of the bytes stands.
+fn next_record(bytes: &[u8]) -> usize
+    ensures { λ r. ⌜ r ≡ nextRecord (now (bytes .entry)) ⌝ }
+{
+    next_after(request::parse(bytes), bytes.len())
+}
+
+// The answers that a run of the requests has: one for each record, and one for the unknown or cut record that ends it.
+pub fn answers_due(requests: &[u8]) -> usize
+    ensures { λ r. ⌜ r ≡ answersDue (now (requests .entry)) ⌝ }
+{
+    let mut at: usize = 0;
+    let mut due: usize = 0;
+    while at < requests.len() {
+        at += next_record(&requests[at..]);
+        due += 1;
+    }
+    due
+}
+
+// What a put of a run gives: its number, and how far on the next record stands.
+struct Turn {
+    number: u8,
+    next: usize,
+}
+
+// Puts the request at the front of the bytes.
+fn run_turn(t: Tables, h: &mut [u8], bytes: &[u8]) -> Turn
+    requires { ⌜ Ready t (now h) ⌝ }
+    ensures { λ r. ⌜ Turned t (now (h .entry)) (now (bytes .entry)) (r .number) (r .next) (now (h .exit)) ⌝ }
+{
+    let parsed = request::parse(bytes);
+    let number = put_parsed(t, h, parsed);
+    Turn {
+        number: number,
+        next: next_after(parsed, bytes.len()),
+    }
+}
+
+// 1 for the answer to a granted request, and 0 for any other.
+fn granted_by(answer: u8) -> usize
+    ensures { λ r. ⌜ r ≡ cond (eqb answer 0) 1 0 ⌝ }
+{
+    if answer == judging::GRANTED {
+        return 1;
+    }
+    0
+}
+
+// The requests that a run granted, and those that it refused.
+pub struct Counts {
+    pub granted: usize,
+    pub refused: usize,
+}
+
+// Puts the requests one after another, each on the history that the one before it leaves, and writes their numbers.
+pub fn run_ready(t: Tables, h: &mut [u8], requests: &[u8], answers: &mut [u8]) -> Counts
+    requires { ⌜ Ready t (now h) × (answersDue (now requests) ≤ length (now answers)) ⌝ }
+    ensures { λ r. ⌜
+        Finished t (now (h .entry)) (now (requests .entry)) (now (answers .entry))
+        (r .granted) (r .refused) (now (h .exit)) (now (answers .exit))
+        ⌝ }
+{
+    let mut at: usize = 0;
+    let mut i: usize = 0;
+    let mut granted: usize = 0;
+    while at < requests.len() {
+        let turn = run_turn(t, h, &requests[at..]);
+        answers[i] = turn.number;
+        i += 1;
+        granted += granted_by(turn.number);
+        at += turn.next;
+    }
+    let refused = i - granted;
+    Counts {
+        granted: granted,
+        refused: refused,
+    }
+}
