@@ -1,17 +1,19 @@
 -- The checks that every call on tables and a history starts with, and what a call returns once they pass or refuse. A check that refuses
 -- gives its number whatever follows it, and checks that permit leave the number to those after them.
-use Prim.Native.Nat.{ℕ, _≤_, _<_}
+use Prim.Native.Nat.{ℕ, _+_, _≤_, _<_}
 use mathlib.Core.Path.{_≡_, refl, sym, ap, _∙_}
-use mathlib.Core.Logic.{_≢_}
+use mathlib.Core.Logic.{_≢_, ⊎-elim}
 use mathlib.Core.Bool.{Bool, true, false, cond}
 use mathlib.Core.List.{List, _++_}
 use native.Mathlib.Omega.{arith}
 use lib.Dec.{eqb}
 use lib.ListN.{length, drop}
 use borrow.Author.Tests.{eqb-true, eq-eqb, ne-eqb, le-leb, lt-leb}
+use Rattle.bits.proofs.Booleans.{decide}
 use Rattle.bits.specs.Bits.{bit}
 use Rattle.bits.specs.Bounded.{countBelow}
 use Rattle.policy.specs.declared.Tables.{Tables}
+use Rattle.policy.specs.declared.Ran.{Ran}
 use Rattle.policy.specs.Checks.{Check, ladder}
 use Rattle.policy.specs.Tables.{personDeclared}
 use Rattle.policy.specs.Rulebook.{given}
@@ -37,6 +39,7 @@ use Rattle.policy.specs.Calls.{
   standing,
 }
 use Rattle.policy.proofs.Refusals.{refusals}
+use Rattle.policy.proofs.Runs.{runs}
 use Rattle.policy.proofs.Histories.{judge-over}
 use Rattle.policy.proofs.Ladders.{permit-first, permit-rest, ladder-zero, ladder-after}
 use Rattle.judging.specs.Judging.{Ready}
@@ -143,6 +146,20 @@ module _ (t : Tables) (h requests answers : List ℕ) where
   run-done z l granted refused after answered g r a w =
       let e = run-passed z l in
       record { returned = rw (e, g, r); after = rw e a; answers = rw e w }
+
+-- the counts of a run are together at most the answer bytes lent
+pub counts-fit : {t : Tables} {h requests lent : List ℕ} {r : Ran} {left written : List ℕ}
+    → RunIs t h requests lent r left written → r .granted + r .refused ≤ length lent
+unfolding ran
+counts-fit {t} {h} {requests} {lent} is =
+    rw (is .returned)
+    (⊎-elim
+    (λ y.
+    let zero = eqb-true (runNumber t h requests lent) 0 y in
+    let run = runs t h requests lent in
+    omega (arith, run .together zero, run .zero .0 zero .2))
+    (λ n. rw n (omega arith))
+    (decide (eqb (runNumber t h requests lent) 0)))
 
 -- ---- standing
 
