@@ -12,7 +12,19 @@ use lib.Pow.{pow-mono, pow-pos}
 use borrow.Author.Tests.{ltb-true, ltb-false, lt-ltb, le-ltb, eqb-true, eq-eqb, ne-eqb}
 use Rattle.bits.specs.Bits.{bit, withBit, withBitIf, maskBelow}
 use Rattle.bits.specs.Bounded.{anyBelow, foldBelow, countBelow}
-use Rattle.bits.proofs.Booleans.{and-left, and-right, and-both, or-cases, or-left, or-right, bool-ext, by-test, decide, false-elim, false-intro}
+use Rattle.bits.proofs.Booleans.{
+  and-left,
+  and-right,
+  and-both,
+  or-cases,
+  or-left,
+  or-right,
+  bool-ext,
+  by-test,
+  decide,
+  false-elim,
+  false-intro,
+}
 use Rattle.bits.proofs.Bounds.{any-some, some-any, fold-start, fold-step, count-ext}
 use Rattle.bits.proofs.BitLaws.{bit-or, bit-half, bit-low, bit-zero, bit-with, bits-ext, with-lt}
 
@@ -84,7 +96,8 @@ empty-none n m l =
     let (k, i, b) = any-some n (bit m) y in
     ne-eqb m 0 (λ z. false-elim (bit 0 k) (bit-zero k) (ap (λ (x : ℕ). bit x k) (sym z) ∙ b)) ∙ sym (ap not y))
     (λ f.
-    let z : m ≡ 0 = bits-ext n m 0 l (pow-pos n) (λ k i. false-intro (bit m k) (λ b. false-elim (anyBelow n (bit m)) f (some-any n (bit m) k i b)) ∙ sym (bit-zero k)) in
+    let z : m ≡ 0 = bits-ext n m 0 l (pow-pos n) (λ k i. false-intro (bit m k) (λ b. false-elim (anyBelow n (bit m)) f (some-any n
+    (bit m) k i b)) ∙ sym (bit-zero k)) in
     eq-eqb m 0 z ∙ sym (ap not f))
     (decide (anyBelow n (bit m)))
 

@@ -138,7 +138,8 @@ module _ (t : Tables) (H : Request → Bool) where
   module _ (ok : given t ≡ true) where
     -- what a person did, once it is gathered, decides an access as the definitions do
     pub access-past : (s o new : ℕ) (writes : Bool) (past : Past) → folderDeclared t o ≡ true → past ≡ pastOf t H s
-        → numberOf t (wallBy t (past .firms) o) (writes ⇒ atMost 12 (folderAt t o .level .0) (past .level .0)) (rolesBy t (past .rights) new)
+        → numberOf t (wallBy t (past .firms) o) (writes ⇒ atMost 12 (folderAt t o .level .0) (past .level .0)) (rolesBy t
+        (past .rights) new)
         ≡ accessNumber t H s o new writes
     unfolding accessNumber pastOf
     access-past s o new writes past known e =

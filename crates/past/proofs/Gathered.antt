@@ -216,7 +216,8 @@ module _ (t : Tables) (h : List ℕ) (s : ℕ) (person : personDeclared t s ≡ 
       false-intro (accessed t (setOf h) s o) (λ a.
       let (x, m, u) = accessed-used t (setOf h) s o k a in
       false-elim (usedOn t (setOf h) s x o)
-      (sym (bit-mask-below 64 (λ x. usedOn t (setOf h) s x o) x m) ∙ ap (λ (n : ℕ). bit n x) (sym (rights-here o l d k) ∙ zero) ∙ bit-zero x) u)
+      (sym (bit-mask-below 64 (λ x. usedOn t (setOf h) s x o) x m) ∙ ap (λ (n : ℕ). bit n x) (sym (rights-here o l d k) ∙ zero)
+      ∙ bit-zero x) u)
 
   some-right : (o : ℕ) → o < 128 → folderAt t o .declared ≡ true → folderAt t o .kind < 16
       → (rightsOn (folderAt t o) h s o ≡ 0 → ⊥) → accessed t (setOf h) s o ≡ true

@@ -133,7 +133,8 @@ module _ (t : Tables) (h : List ℕ) (small : (i : ℕ) → getD h i 0 < 256) (o
   pub done-set : (persons steps : ℕ) → persons ≡ maskBelow 64 (personDeclared t) → steps ≡ maskBelow 16 (doneBy h persons o)
       → steps ≡ maskBelow 16 (done t (setOf h) o)
   done-set persons steps e f =
-      f ∙ ap (λ (n : ℕ). maskBelow 16 (doneBy h n o)) e ∙ mask-ext 16 (doneBy h (maskBelow 64 (personDeclared t)) o) (done t (setOf h) o) done-by
+      f ∙ ap (λ (n : ℕ). maskBelow 16 (doneBy h n o)) e
+      ∙ mask-ext 16 (doneBy h (maskBelow 64 (personDeclared t)) o) (done t (setOf h) o) done-by
 
 -- ---- the step rule
 
@@ -146,7 +147,8 @@ module _ (t : Tables) (H : Request → Bool) (o : ℕ) where
       empty-none 16 (bitAnd enabled steps) (lt-of-le-of-lt (and-le-r enabled steps) (mask-lt 16 (done t H o)))
       ∙ ap not
       (any-ext 16 (bit (bitAnd enabled steps)) (λ d. done t H o d && bit enabled d) (λ d l.
-      bit-and enabled steps d ∙ ap (λ (b : Bool). bit enabled d && b) (bit-mask-below 16 (done t H o) d l) ∙ and-comm (bit enabled d) (done t H o d)))
+      bit-and enabled steps d ∙ ap (λ (b : Bool). bit enabled d && b) (bit-mask-below 16 (done t H o) d l)
+      ∙ and-comm (bit enabled d) (done t H o d)))
 
   leads-is : (q p : ℕ) → p < 16 → q < 16 → leadsAmong (t .steps) (maskBelow 16 (done t H o)) q p ≡ leadsTo t H o q p
   unfolding leadsAmong leads leadsTo enables

@@ -166,7 +166,8 @@ module _ (t : Tables) (H : Request → Bool) (s : ℕ) where
       subset-covers k sub =
           let in-role : (x : ℕ) → bit (withBit rights (right t r % 64)) x ≡ true → bit (roleAt t k .rights) x ≡ true =
           λ x b. subset-bit (withBit rights (right t r % 64)) (roleAt t k .rights) x sub b in
-          and-both _ _ (in-role (right t r) (wanted-bit (right t r) ∙ or-left (eqb (right t r) (right t r)) _ (eq-eqb (right t r) (right t r) refl)))
+          and-both _ _ (in-role (right t r) (wanted-bit (right t r)
+          ∙ or-left (eqb (right t r) (right t r)) _ (eq-eqb (right t r) (right t r) refl)))
           (ap not
           (false-intro (someRequest (outside k) (subject r)) (λ e.
           let (q, same-person, w) = some-request (outside k) (subject r) e in

@@ -24,7 +24,9 @@ array-share-prefix-out : tie.Need-array-share-prefix-out
 array-share-prefix-out c = search needs
 
 slice-aggregate-write-all : tie.Need-slice-aggregate-write-all
-slice-aggregate-write-all c = omega (arith, length-take (c .before .before .put-book-refused .result) (c .before .before .put-book-refused .last .1 .1 .0), c .before .before .put-book-refused .ensures .within)
+slice-aggregate-write-all c =
+    let put-book-refused = c .before .before .put-book-refused in
+    omega (arith, length-take (put-book-refused .result) (put-book-refused .last .1 .1 .0), put-book-refused .ensures .within)
 
 write-all-requires : tie.Need-write-all-requires
 write-all-requires c κs = search needs

@@ -26,7 +26,9 @@ array-share-prefix-out : tie.Need-array-share-prefix-out
 array-share-prefix-out c = search needs
 
 slice-aggregate-write-all : tie.Need-slice-aggregate-write-all
-slice-aggregate-write-all c = omega (arith, length-take (c .before .before .put-too-long .result) (c .before .before .put-too-long .last .0), c .before .before .put-too-long .ensures .within)
+slice-aggregate-write-all c =
+    let put-too-long = c .before .before .put-too-long in
+    omega (arith, length-take (put-too-long .result) (put-too-long .last .0), put-too-long .ensures .within)
 
 write-all-requires : tie.Need-write-all-requires
 write-all-requires c κs = search needs

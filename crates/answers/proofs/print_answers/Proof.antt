@@ -36,10 +36,11 @@ array-share-prefix-answers c = omega (arith, counts-fit (c .before .before .befo
 
 slice-aggregate-print-lines : tie.Need-slice-aggregate-print-lines
 slice-aggregate-print-lines c =
+    let call-run = c .before .before .before .before .run in
     omega (
       arith,
-      counts-fit (c .before .before .before .before .run .ensures),
-      length-take (c .before .before .before .before .run .result .granted + c .before .before .before .before .run .result .refused) (c .before .before .before .before .run .last .1 .1 .1 .0),
+      counts-fit (call-run .ensures),
+      length-take (call-run .result .granted + call-run .result .refused) (call-run .last .1 .1 .1 .0),
     )
 
 print-lines-requires : tie.Need-print-lines-requires
@@ -55,7 +56,9 @@ array-share-prefix-out : tie.Need-array-share-prefix-out
 array-share-prefix-out c = search needs
 
 slice-aggregate-write-all : tie.Need-slice-aggregate-write-all
-slice-aggregate-write-all c = omega (arith, length-take (c .before .before .put-totals .result) (c .before .before .put-totals .last .1 .1 .0), c .before .before .put-totals .ensures .within)
+slice-aggregate-write-all c =
+    let put-totals = c .before .before .put-totals in
+    omega (arith, length-take (put-totals .result) (put-totals .last .1 .1 .0), put-totals .ensures .within)
 
 write-all-requires : tie.Need-write-all-requires
 write-all-requires c κs = search needs

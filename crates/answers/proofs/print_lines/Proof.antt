@@ -29,7 +29,9 @@ array-share-prefix-out : tie.Need-array-share-prefix-out Inv-loop μ-loop
 array-share-prefix-out c = search needs
 
 slice-aggregate-write-all : tie.Need-slice-aggregate-write-all Inv-loop μ-loop
-slice-aggregate-write-all c = omega (arith, length-take (c .before .before .put-lines .result .len) (c .before .before .put-lines .last .1 .1 .0), c .before .before .put-lines .ensures .within)
+slice-aggregate-write-all c =
+    let put-lines = c .before .before .put-lines in
+    omega (arith, length-take (put-lines .result .len) (put-lines .last .1 .1 .0), put-lines .ensures .within)
 
 write-all-requires : tie.Need-write-all-requires Inv-loop μ-loop
 write-all-requires c κs = search needs

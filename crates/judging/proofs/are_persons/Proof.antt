@@ -20,7 +20,11 @@ element-copy-out-second c = search needs
 
 returns : tie.Need-returns
 unfolding personDeclared
-returns c = rw (lt-ltb _ 64 (c .before .before .before .before .if1 .taken), c .before .before .if2 .taken, lt-ltb _ 64 (c .before .if3 .taken))
+returns c =
+    let if1 = c .before .before .before .before .if1 in
+    let if2 = c .before .before .if2 in
+    let if3 = c .before .if3 in
+    rw (lt-ltb _ 64 (if1 .taken), if2 .taken, lt-ltb _ 64 (if3 .taken))
 
 returns-2 : tie.Need-returns-2
 unfolding personDeclared

@@ -27,7 +27,10 @@ judge-past-requires : tie.Need-judge-past-requires
 judge-past-requires c κs = search needs
 
 returns : tie.Need-returns
-returns c = c .judge-past .ensures ∙ access-past _ _ (c .before .before .before .before .before .pre .0 .tables) _ _ _ _ (c .before .past-of .result) (c .before .before .before .before .before .pre .2) (c .before .past-of .ensures)
+returns c =
+    let start = c .before .before .before .before .before in
+    let past-of = c .before .past-of in
+    c .judge-past .ensures ∙ access-past _ _ (start .pre .0 .tables) _ _ _ _ (past-of .result) (start .pre .2) (past-of .ensures)
 
 bit8-requires-2 : tie.Need-bit8-requires-2
 bit8-requires-2 c κs = search needs
@@ -39,7 +42,10 @@ judge-past-requires-2 : tie.Need-judge-past-requires-2
 judge-past-requires-2 c κs = search needs
 
 returns-2 : tie.Need-returns-2
-returns-2 c = c .judge-past2 .ensures ∙ access-past _ _ (c .before .before .before .before .before .before .before .pre .0 .tables) _ _ _ _ (c .before .past-of2 .result) (c .before .before .before .before .before .before .before .pre .2) (c .before .past-of2 .ensures)
+returns-2 c =
+    let start = c .before .before .before .before .before .before .before in
+    let past-of2 = c .before .past-of2 in
+    c .judge-past2 .ensures ∙ access-past _ _ (start .pre .0 .tables) _ _ _ _ (past-of2 .result) (start .pre .2) (past-of2 .ensures)
 
 bit8-requires-3 : tie.Need-bit8-requires-3
 bit8-requires-3 c κs = search needs
@@ -47,9 +53,15 @@ bit8-requires-3 c κs = search needs
 returns-3 : tie.Need-returns-3
 unfolding accessNumber inForce
 returns-3 c =
+    let call-bit8 = c .before .before .before .before .before .bit8 in
+    let if1 = c .before .before .before .before .if1 in
+    let bit83 = c .before .bit83 in
+    let bit82 = c .before .before .before .bit82 in
+    let if2 = c .before .before .if2 in
     sym
-    (number-none _ _ _ _ (passes _ _ (inr (sym (c .before .before .before .before .before .bit8 .ensures) ∙ c .before .before .before .before .if1 .left))) (passes _ _ (inr (sym (c .before .bit83 .ensures) ∙ not-true _ (c .if3 .taken))))
-    (passes _ _ (inr (sym (c .before .before .before .bit82 .ensures) ∙ c .before .before .if2 .left))))
+    (number-none _ _ _ _ (passes _ _ (inr (sym (call-bit8 .ensures) ∙ if1 .left))) (passes _ _ (inr (sym (bit83 .ensures)
+    ∙ not-true _ (c .if3 .taken))))
+    (passes _ _ (inr (sym (bit82 .ensures) ∙ if2 .left))))
 
 mul-folder : tie.Need-mul-folder
 mul-folder c = omega (arith, folder-below _ _ (c .before .before .before .before .before .before .before .pre .2))
@@ -66,17 +78,36 @@ level-permits-requires c κs = search needs
 returns-4 : tie.Need-returns-4
 unfolding accessNumber inForce
 returns-4 c =
+    let call-bit8 = c .before .before .before .before .before .before .before .before .before .before .bit8 in
+    let if1 = c .before .before .before .before .before .before .before .before .before .if1 in
+    let bit83 = c .before .before .before .before .before .before .bit83 in
+    let if3 = c .before .before .before .before .before .if3 in
+    let current-level = c .before .before .current-level in
+    let level-permits = c .before .level-permits in
+    let bit82 = c .before .before .before .before .before .before .before .before .bit82 in
+    let if2 = c .before .before .before .before .before .before .before .if2 in
     sym
-    (number-none _ _ _ _ (passes _ _ (inr (sym (c .before .before .before .before .before .before .before .before .before .before .bit8 .ensures) ∙ c .before .before .before .before .before .before .before .before .before .if1 .left)))
-    (passes _ _ (inl ((sym (c .before .before .before .before .before .before .bit83 .ensures) ∙ not-false _ (c .before .before .before .before .before .if3 .left)), rw (← c .before .before .current-level .ensures) (sym (c .before .level-permits .ensures) ∙ c .if4 .taken))))
-    (passes _ _ (inr (sym (c .before .before .before .before .before .before .before .before .bit82 .ensures) ∙ c .before .before .before .before .before .before .before .if2 .left))))
+    (number-none _ _ _ _ (passes _ _ (inr (sym (call-bit8 .ensures) ∙ if1 .left)))
+    (passes _ _ (inl (
+      (sym (bit83 .ensures) ∙ not-false _ (if3 .left)),
+      rw (← current-level .ensures) (sym (level-permits .ensures)
+          ∙ c .if4 .taken),
+    )))
+    (passes _ _ (inr (sym (bit82 .ensures) ∙ if2 .left))))
 
 returns-5 : tie.Need-returns-5
 unfolding accessNumber inForce
 returns-5 c =
+    let call-bit8 = c .before .before .before .before .before .before .before .before .before .before .bit8 in
+    let if1 = c .before .before .before .before .before .before .before .before .before .if1 in
+    let bit83 = c .before .before .before .before .before .before .bit83 in
+    let if3 = c .before .before .before .before .before .if3 in
+    let current-level = c .before .before .current-level in
+    let level-permits = c .before .level-permits in
     sym
-    (number-level _ _ _ _ (passes _ _ (inr (sym (c .before .before .before .before .before .before .before .before .before .before .bit8 .ensures) ∙ c .before .before .before .before .before .before .before .before .before .if1 .left)))
-    (refuses _ _ (sym (c .before .before .before .before .before .before .bit83 .ensures) ∙ not-false _ (c .before .before .before .before .before .if3 .left)) (rw (← c .before .before .current-level .ensures) (sym (c .before .level-permits .ensures) ∙ c .if4 .left))))
+    (number-level _ _ _ _ (passes _ _ (inr (sym (call-bit8 .ensures) ∙ if1 .left)))
+    (refuses _ _ (sym (bit83 .ensures) ∙ not-false _ (if3 .left)) (rw (← current-level .ensures) (sym (level-permits .ensures)
+    ∙ c .if4 .left))))
 
 pub judge-access-spec : {M : Type 1} → statement M
 judge-access-spec =

@@ -22,9 +22,11 @@ judge-parsed-requires c κs = search needs
 returns : tie.Need-returns
 unfolding judgeOver parsedNumber
 returns c =
+    let start = c .before .before .before .before in
+    let call-parse = c .before .parse in
     c .judge-parsed .ensures
-    ∙ ap (λ (d : Option Request). ladder (requestChecks (c .before .before .before .before .args .t) (setOf (now (c .before .before .before .before .args .h))) d))
-    (c .before .parse .ensures)
+    ∙ ap (λ (d : Option Request). ladder (requestChecks (start .args .t) (setOf (now (start .args .h))) d))
+    (call-parse .ensures)
 
 pub judge-bytes-spec : {M : Type 1} → statement M
 judge-bytes-spec = tie.close (tie.spec parse-requires judge-parsed-requires returns)

@@ -73,16 +73,33 @@ unfolding parsedNumber requestChecks ladder
 returns c = cc
 
 returns-2 : tie.Need-returns-2
-returns-2 c = c .judge-read .ensures ∙ parsed-read _ _ _ _ _ _ _ (c .before .before .before .before .r .given .1) (c .before .before .wide .ensures .0) (c .before .wide2 .ensures .0)
+returns-2 c =
+    let r = c .before .before .before .before .r in
+    let call-wide = c .before .before .wide in
+    let wide2 = c .before .wide2 in
+    c .judge-read .ensures ∙ parsed-read _ _ _ _ _ _ _ (r .given .1) (call-wide .ensures .0) (wide2 .ensures .0)
 
 returns-3 : tie.Need-returns-3
-returns-3 c = c .judge-write .ensures ∙ parsed-write _ _ _ _ _ _ _ (c .before .before .before .before .r2 .given .1) (c .before .before .wide3 .ensures .0) (c .before .wide4 .ensures .0)
+returns-3 c =
+    let r2 = c .before .before .before .before .r2 in
+    let wide3 = c .before .before .wide3 in
+    let wide4 = c .before .wide4 in
+    c .judge-write .ensures ∙ parsed-write _ _ _ _ _ _ _ (r2 .given .1) (wide3 .ensures .0) (wide4 .ensures .0)
 
 returns-4 : tie.Need-returns-4
-returns-4 c = c .judge-start .ensures ∙ parsed-start _ _ _ _ _ _ _ (c .before .before .before .before .r3 .given .1) (c .before .before .wide5 .ensures .0) (c .before .wide6 .ensures .0)
+returns-4 c =
+    let r3 = c .before .before .before .before .r3 in
+    let wide5 = c .before .before .wide5 in
+    let wide6 = c .before .wide6 in
+    c .judge-start .ensures ∙ parsed-start _ _ _ _ _ _ _ (r3 .given .1) (wide5 .ensures .0) (wide6 .ensures .0)
 
 returns-5 : tie.Need-returns-5
-returns-5 c = c .judge-step .ensures ∙ parsed-step _ _ _ _ _ _ _ _ _ (c .before .before .before .before .before .r4 .given .1) (c .before .before .before .wide7 .ensures .0) (c .before .before .wide8 .ensures .0) (c .before .wide9 .ensures .0)
+returns-5 c =
+    let r4 = c .before .before .before .before .before .r4 in
+    let wide7 = c .before .before .before .wide7 in
+    let wide8 = c .before .before .wide8 in
+    let wide9 = c .before .wide9 in
+    c .judge-step .ensures ∙ parsed-step _ _ _ _ _ _ _ _ _ (r4 .given .1) (wide7 .ensures .0) (wide8 .ensures .0) (wide9 .ensures .0)
 
 pub judge-parsed-spec : {M : Type 1} → statement M
 judge-parsed-spec =

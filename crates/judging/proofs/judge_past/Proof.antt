@@ -24,9 +24,12 @@ wall-permits-requires c κs = search needs
 returns : tie.Need-returns
 unfolding inForce
 returns c =
+    let call-bit8 = c .before .before .before .bit8 in
+    let if1 = c .before .before .if1 in
+    let wall-permits = c .before .wall-permits in
     sym
     (number-wall _ _ _ _
-    (refuses _ _ (sym (c .before .before .before .bit8 .ensures) ∙ c .before .before .if1 .taken) (sym (c .before .wall-permits .ensures) ∙ not-true _ (c .if2 .taken))))
+    (refuses _ _ (sym (call-bit8 .ensures) ∙ if1 .taken) (sym (wall-permits .ensures) ∙ not-true _ (c .if2 .taken))))
 
 bit8-requires-2 : tie.Need-bit8-requires-2
 bit8-requires-2 c κs = search needs
@@ -43,11 +46,16 @@ level-permits-requires c κs = search needs
 returns-2 : tie.Need-returns-2
 unfolding inForce
 returns-2 c =
+    let call-bit8 = c .before .before .before .before .before .before .before .before .bit8 in
+    let if1 = c .before .before .before .before .before .before .before .if1 in
+    let bit82 = c .before .before .before .before .before .before .bit82 in
+    let if3 = c .before .before .before .before .before .if3 in
+    let level-permits = c .before .level-permits in
     sym
     (number-level _ _ _ _ (passes _ _
-    (⊎-elim (λ w. inl (sym (c .before .before .before .before .before .before .before .before .bit8 .ensures) ∙ w .0 .taken, sym (w .1 .ensures) ∙ not-false _ (w .2 .left)))
-    (λ w. inr (sym (c .before .before .before .before .before .before .before .before .bit8 .ensures) ∙ w .left)) (c .before .before .before .before .before .before .before .if1 .came)))
-    (refuses _ _ (sym (c .before .before .before .before .before .before .bit82 .ensures) ∙ c .before .before .before .before .before .if3 .taken) (sym (c .before .level-permits .ensures) ∙ not-true _ (c .if4 .taken))))
+    (⊎-elim (λ w. inl (sym (call-bit8 .ensures) ∙ w .0 .taken, sym (w .1 .ensures) ∙ not-false _ (w .2 .left)))
+    (λ w. inr (sym (call-bit8 .ensures) ∙ w .left)) (if1 .came)))
+    (refuses _ _ (sym (bit82 .ensures) ∙ if3 .taken) (sym (level-permits .ensures) ∙ not-true _ (c .if4 .taken))))
 
 bit8-requires-3 : tie.Need-bit8-requires-3
 bit8-requires-3 c κs = search needs
@@ -58,38 +66,57 @@ roles-permit-requires c κs = search needs
 returns-3 : tie.Need-returns-3
 unfolding inForce
 returns-3 c =
+    let call-bit8 = c .before .before .before .before .before .before .before .bit8 in
+    let if1 = c .before .before .before .before .before .before .if1 in
+    let bit82 = c .before .before .before .before .before .bit82 in
+    let if3 = c .before .before .before .before .if3 in
+    let bit83 = c .before .before .before .bit83 in
+    let if5 = c .before .before .if5 in
+    let roles-permit = c .before .roles-permit in
     sym
     (number-roles _ _ _ _ (passes _ _
-    (⊎-elim (λ w. inl (sym (c .before .before .before .before .before .before .before .bit8 .ensures) ∙ w .0 .taken, sym (w .1 .ensures) ∙ not-false _ (w .2 .left)))
-    (λ w. inr (sym (c .before .before .before .before .before .before .before .bit8 .ensures) ∙ w .left)) (c .before .before .before .before .before .before .if1 .came)))
+    (⊎-elim (λ w. inl (sym (call-bit8 .ensures) ∙ w .0 .taken, sym (w .1 .ensures) ∙ not-false _ (w .2 .left)))
+    (λ w. inr (sym (call-bit8 .ensures) ∙ w .left)) (if1 .came)))
     (passes _ _
-    (⊎-elim (λ w. inl (sym (c .before .before .before .before .before .bit82 .ensures) ∙ w .0 .taken, sym (w .4 .ensures) ∙ not-false _ (w .5 .left)))
-    (λ w. inr (sym (c .before .before .before .before .before .bit82 .ensures) ∙ w .left)) (c .before .before .before .before .if3 .came)))
-    (refuses _ _ (sym (c .before .before .before .bit83 .ensures) ∙ c .before .before .if5 .taken) (sym (c .before .roles-permit .ensures) ∙ not-true _ (c .if6 .taken))))
+    (⊎-elim (λ w. inl (sym (bit82 .ensures) ∙ w .0 .taken, sym (w .4 .ensures) ∙ not-false _ (w .5 .left)))
+    (λ w. inr (sym (bit82 .ensures) ∙ w .left)) (if3 .came)))
+    (refuses _ _ (sym (bit83 .ensures) ∙ if5 .taken) (sym (roles-permit .ensures) ∙ not-true _ (c .if6 .taken))))
 
 returns-4 : tie.Need-returns-4
 unfolding inForce
 returns-4 c =
+    let call-bit8 = c .before .before .before .before .before .before .before .bit8 in
+    let if1 = c .before .before .before .before .before .before .if1 in
+    let bit82 = c .before .before .before .before .before .bit82 in
+    let if3 = c .before .before .before .before .if3 in
+    let bit83 = c .before .before .before .bit83 in
+    let if5 = c .before .before .if5 in
+    let roles-permit = c .before .roles-permit in
     sym
     (number-none _ _ _ _ (passes _ _
-    (⊎-elim (λ w. inl (sym (c .before .before .before .before .before .before .before .bit8 .ensures) ∙ w .0 .taken, sym (w .1 .ensures) ∙ not-false _ (w .2 .left)))
-    (λ w. inr (sym (c .before .before .before .before .before .before .before .bit8 .ensures) ∙ w .left)) (c .before .before .before .before .before .before .if1 .came)))
+    (⊎-elim (λ w. inl (sym (call-bit8 .ensures) ∙ w .0 .taken, sym (w .1 .ensures) ∙ not-false _ (w .2 .left)))
+    (λ w. inr (sym (call-bit8 .ensures) ∙ w .left)) (if1 .came)))
     (passes _ _
-    (⊎-elim (λ w. inl (sym (c .before .before .before .before .before .bit82 .ensures) ∙ w .0 .taken, sym (w .4 .ensures) ∙ not-false _ (w .5 .left)))
-    (λ w. inr (sym (c .before .before .before .before .before .bit82 .ensures) ∙ w .left)) (c .before .before .before .before .if3 .came)))
-    (passes _ _ (inl ((sym (c .before .before .before .bit83 .ensures) ∙ c .before .before .if5 .taken), sym (c .before .roles-permit .ensures) ∙ not-false _ (c .if6 .left)))))
+    (⊎-elim (λ w. inl (sym (bit82 .ensures) ∙ w .0 .taken, sym (w .4 .ensures) ∙ not-false _ (w .5 .left)))
+    (λ w. inr (sym (bit82 .ensures) ∙ w .left)) (if3 .came)))
+    (passes _ _ (inl ((sym (bit83 .ensures) ∙ if5 .taken), sym (roles-permit .ensures) ∙ not-false _ (c .if6 .left)))))
 
 returns-5 : tie.Need-returns-5
 unfolding inForce
 returns-5 c =
+    let call-bit8 = c .before .before .before .before .before .bit8 in
+    let if1 = c .before .before .before .before .if1 in
+    let bit82 = c .before .before .before .bit82 in
+    let if3 = c .before .before .if3 in
+    let bit83 = c .before .bit83 in
     sym
     (number-none _ _ _ _ (passes _ _
-    (⊎-elim (λ w. inl (sym (c .before .before .before .before .before .bit8 .ensures) ∙ w .0 .taken, sym (w .1 .ensures) ∙ not-false _ (w .2 .left)))
-    (λ w. inr (sym (c .before .before .before .before .before .bit8 .ensures) ∙ w .left)) (c .before .before .before .before .if1 .came)))
+    (⊎-elim (λ w. inl (sym (call-bit8 .ensures) ∙ w .0 .taken, sym (w .1 .ensures) ∙ not-false _ (w .2 .left)))
+    (λ w. inr (sym (call-bit8 .ensures) ∙ w .left)) (if1 .came)))
     (passes _ _
-    (⊎-elim (λ w. inl (sym (c .before .before .before .bit82 .ensures) ∙ w .0 .taken, sym (w .4 .ensures) ∙ not-false _ (w .5 .left)))
-    (λ w. inr (sym (c .before .before .before .bit82 .ensures) ∙ w .left)) (c .before .before .if3 .came)))
-    (passes _ _ (inr (sym (c .before .bit83 .ensures) ∙ c .if5 .left))))
+    (⊎-elim (λ w. inl (sym (bit82 .ensures) ∙ w .0 .taken, sym (w .4 .ensures) ∙ not-false _ (w .5 .left)))
+    (λ w. inr (sym (bit82 .ensures) ∙ w .left)) (if3 .came)))
+    (passes _ _ (inr (sym (bit83 .ensures) ∙ c .if5 .left))))
 
 pub judge-past-spec : {M : Type 1} → statement M
 judge-past-spec =

@@ -40,28 +40,40 @@ bit8-requires c κs = search needs
 
 past-of-requires : tie.Need-past-of-requires
 past-of-requires c κs =
+    let start = c .before .before .before .before .before in
+    let are-persons = c .before .before .before .are-persons in
+    let if1 = c .before .before .if1 in
     let known =
-    known-both (personDeclared (c .before .before .before .before .before .args .t) (c .before .before .before .before .before .args .s)) (personDeclared (c .before .before .before .before .before .args .t) (c .before .before .before .before .before .args .u))
-    (c .before .before .before .are-persons .result) (c .before .before .before .are-persons .ensures) (c .before .before .if1 .left) in
-    (c .before .before .before .before .before .pre .size, c .before .before .before .before .before .pre .tables, known .0)
+    known-both (personDeclared (start .args .t) (start .args .s)) (personDeclared (start .args .t) (start .args .u))
+    (are-persons .result) (are-persons .ensures) (if1 .left) in
+    (start .pre .size, start .pre .tables, known .0)
 
 judge-start-past-requires : tie.Need-judge-start-past-requires
 unfolding inForce
 judge-start-past-requires c κs =
+    let start = c .before .before .before .before .before .before in
+    let are-persons = c .before .before .before .before .are-persons in
+    let if1 = c .before .before .before .if1 in
+    let call-bit8 = c .before .before .bit8 in
+    let if2 = c .before .if2 in
     let known =
-    known-both (personDeclared (c .before .before .before .before .before .before .args .t) (c .before .before .before .before .before .before .args .s)) (personDeclared (c .before .before .before .before .before .before .args .t) (c .before .before .before .before .before .before .args .u))
-    (c .before .before .before .before .are-persons .result) (c .before .before .before .before .are-persons .ensures) (c .before .before .before .if1 .left) in
-    (c .before .before .before .before .before .before .pre, known .1, (sym (c .before .before .bit8 .ensures) ∙ c .before .if2 .taken))
+    known-both (personDeclared (start .args .t) (start .args .s)) (personDeclared (start .args .t) (start .args .u))
+    (are-persons .result) (are-persons .ensures) (if1 .left) in
+    (start .pre, known .1, (sym (call-bit8 .ensures) ∙ if2 .taken))
 
 returns-2 : tie.Need-returns-2
 unfolding declared
 returns-2 c =
+    let start = c .before .before .before .before .before .before .before in
+    let are-persons = c .before .before .before .before .before .are-persons in
+    let if1 = c .before .before .before .before .if1 in
+    let past-of = c .before .past-of in
     let known =
-    known-both (personDeclared (c .before .before .before .before .before .before .before .args .t) (c .before .before .before .before .before .before .before .args .s)) (personDeclared (c .before .before .before .before .before .before .before .args .t) (c .before .before .before .before .before .before .before .args .u))
-    (c .before .before .before .before .before .are-persons .result) (c .before .before .before .before .before .are-persons .ensures) (c .before .before .before .before .if1 .left) in
+    known-both (personDeclared (start .args .t) (start .args .s)) (personDeclared (start .args .t) (start .args .u))
+    (are-persons .result) (are-persons .ensures) (if1 .left) in
     c .judge-start-past .ensures
-    ∙ start-past _ _ (c .before .before .before .before .before .before .before .pre .tables) _ _ (c .before .past-of .result) (c .before .past-of .ensures)
-    ∙ sym (start-number _ _ (c .before .before .before .before .before .before .before .pre .tables) _ _ (and-both _ _ (known .0) (known .1)))
+    ∙ start-past _ _ (start .pre .tables) _ _ (past-of .result) (past-of .ensures)
+    ∙ sym (start-number _ _ (start .pre .tables) _ _ (and-both _ _ (known .0) (known .1)))
 
 bit8-requires-2 : tie.Need-bit8-requires-2
 bit8-requires-2 c κs = search needs
@@ -69,27 +81,39 @@ bit8-requires-2 c κs = search needs
 returns-3 : tie.Need-returns-3
 unfolding declared inForce
 returns-3 c =
+    let start = c .before .before .before .before .before .before .before in
+    let are-persons = c .before .before .before .before .before .are-persons in
+    let if1 = c .before .before .before .before .if1 in
+    let bit82 = c .before .bit82 in
+    let call-bit8 = c .before .before .before .bit8 in
+    let if2 = c .before .before .if2 in
     let known =
-    known-both (personDeclared (c .before .before .before .before .before .before .before .args .t) (c .before .before .before .before .before .before .before .args .s)) (personDeclared (c .before .before .before .before .before .before .before .args .t) (c .before .before .before .before .before .before .before .args .u))
-    (c .before .before .before .before .before .are-persons .result) (c .before .before .before .before .before .are-persons .ensures) (c .before .before .before .before .if1 .left) in
+    known-both (personDeclared (start .args .t) (start .args .s)) (personDeclared (start .args .t) (start .args .u))
+    (are-persons .result) (are-persons .ensures) (if1 .left) in
     sym
-    (start-number _ _ (c .before .before .before .before .before .before .before .pre .tables) _ _ (and-both _ _ (known .0) (known .1))
-    ∙ number-none _ _ _ _ (implies-true (inForce (c .before .before .before .before .before .before .before .args .t) 0)) (passes _ _ (inr (sym (c .before .bit82 .ensures) ∙ not-true _ (c .if3 .taken))))
-    (passes _ _ (inr (sym (c .before .before .before .bit8 .ensures) ∙ c .before .before .if2 .left))))
+    (start-number _ _ (start .pre .tables) _ _ (and-both _ _ (known .0) (known .1))
+    ∙ number-none _ _ _ _ (implies-true (inForce (start .args .t) 0)) (passes _ _ (inr (sym (bit82 .ensures) ∙ not-true _ (c .if3 .taken))))
+    (passes _ _ (inr (sym (call-bit8 .ensures) ∙ if2 .left))))
 
 current-level-requires : tie.Need-current-level-requires
 current-level-requires c κs =
+    let start = c .before .before .before .before .before .before .before in
+    let are-persons = c .before .before .before .before .before .are-persons in
+    let if1 = c .before .before .before .before .if1 in
     let known =
-    known-both (personDeclared (c .before .before .before .before .before .before .before .args .t) (c .before .before .before .before .before .before .before .args .s)) (personDeclared (c .before .before .before .before .before .before .before .args .t) (c .before .before .before .before .before .before .before .args .u))
-    (c .before .before .before .before .before .are-persons .result) (c .before .before .before .before .before .are-persons .ensures) (c .before .before .before .before .if1 .left) in
-    (c .before .before .before .before .before .before .before .pre .size, c .before .before .before .before .before .before .before .pre .tables, known .0)
+    known-both (personDeclared (start .args .t) (start .args .s)) (personDeclared (start .args .t) (start .args .u))
+    (are-persons .result) (are-persons .ensures) (if1 .left) in
+    (start .pre .size, start .pre .tables, known .0)
 
 current-level-requires-2 : tie.Need-current-level-requires-2
 current-level-requires-2 c κs =
+    let start = c .before .before .before .before .before .before .before .before in
+    let are-persons = c .before .before .before .before .before .before .are-persons in
+    let if1 = c .before .before .before .before .before .if1 in
     let known =
-    known-both (personDeclared (c .before .before .before .before .before .before .before .before .args .t) (c .before .before .before .before .before .before .before .before .args .s)) (personDeclared (c .before .before .before .before .before .before .before .before .args .t) (c .before .before .before .before .before .before .before .before .args .u))
-    (c .before .before .before .before .before .before .are-persons .result) (c .before .before .before .before .before .before .are-persons .ensures) (c .before .before .before .before .before .if1 .left) in
-    (c .before .before .before .before .before .before .before .before .pre .size, c .before .before .before .before .before .before .before .before .pre .tables, known .1)
+    known-both (personDeclared (start .args .t) (start .args .s)) (personDeclared (start .args .t) (start .args .u))
+    (are-persons .result) (are-persons .ensures) (if1 .left) in
+    (start .pre .size, start .pre .tables, known .1)
 
 compare-requires : tie.Need-compare-requires
 compare-requires c κs = search needs
@@ -97,25 +121,49 @@ compare-requires c κs = search needs
 returns-4 : tie.Need-returns-4
 unfolding declared inForce
 returns-4 c =
+    let start = c .before .before .before .before .before .before .before .before .before .before .before in
+    let are-persons = c .before .before .before .before .before .before .before .before .before .are-persons in
+    let if1 = c .before .before .before .before .before .before .before .before .if1 in
+    let bit82 = c .before .before .before .before .before .bit82 in
+    let if3 = c .before .before .before .before .if3 in
+    let current-level2 = c .before .before .current-level2 in
+    let current-level = c .before .before .before .current-level in
+    let call-compare = c .before .compare in
+    let call-bit8 = c .before .before .before .before .before .before .before .bit8 in
+    let if2 = c .before .before .before .before .before .before .if2 in
     let known =
-    known-both (personDeclared (c .before .before .before .before .before .before .before .before .before .before .before .args .t) (c .before .before .before .before .before .before .before .before .before .before .before .args .s)) (personDeclared (c .before .before .before .before .before .before .before .before .before .before .before .args .t) (c .before .before .before .before .before .before .before .before .before .before .before .args .u))
-    (c .before .before .before .before .before .before .before .before .before .are-persons .result) (c .before .before .before .before .before .before .before .before .before .are-persons .ensures) (c .before .before .before .before .before .before .before .before .if1 .left) in
+    known-both (personDeclared (start .args .t) (start .args .s)) (personDeclared (start .args .t) (start .args .u))
+    (are-persons .result) (are-persons .ensures) (if1 .left) in
     sym
-    (start-number _ _ (c .before .before .before .before .before .before .before .before .before .before .before .pre .tables) _ _ (and-both _ _ (known .0) (known .1))
-    ∙ number-none _ _ _ _ (implies-true (inForce (c .before .before .before .before .before .before .before .before .before .before .before .args .t) 0))
-    (passes _ _ (inl ((sym (c .before .before .before .before .before .bit82 .ensures) ∙ not-false _ (c .before .before .before .before .if3 .left)), rw (← c .before .before .current-level2 .ensures, ← c .before .before .before .current-level .ensures) (sym (c .before .compare .ensures) ∙ c .if4 .taken))))
-    (passes _ _ (inr (sym (c .before .before .before .before .before .before .before .bit8 .ensures) ∙ c .before .before .before .before .before .before .if2 .left))))
+    (start-number _ _ (start .pre .tables) _ _ (and-both _ _ (known .0) (known .1))
+    ∙ number-none _ _ _ _ (implies-true (inForce (start .args .t) 0))
+    (passes _ _ (inl (
+      (sym (bit82 .ensures)
+          ∙ not-false _ (if3 .left)),
+      rw (← current-level2 .ensures, ← current-level .ensures) (sym (call-compare .ensures)
+          ∙ c .if4 .taken),
+    )))
+    (passes _ _ (inr (sym (call-bit8 .ensures) ∙ if2 .left))))
 
 returns-5 : tie.Need-returns-5
 unfolding declared inForce
 returns-5 c =
+    let start = c .before .before .before .before .before .before .before .before .before .before .before in
+    let are-persons = c .before .before .before .before .before .before .before .before .before .are-persons in
+    let if1 = c .before .before .before .before .before .before .before .before .if1 in
+    let bit82 = c .before .before .before .before .before .bit82 in
+    let if3 = c .before .before .before .before .if3 in
+    let current-level2 = c .before .before .current-level2 in
+    let current-level = c .before .before .before .current-level in
+    let call-compare = c .before .compare in
     let known =
-    known-both (personDeclared (c .before .before .before .before .before .before .before .before .before .before .before .args .t) (c .before .before .before .before .before .before .before .before .before .before .before .args .s)) (personDeclared (c .before .before .before .before .before .before .before .before .before .before .before .args .t) (c .before .before .before .before .before .before .before .before .before .before .before .args .u))
-    (c .before .before .before .before .before .before .before .before .before .are-persons .result) (c .before .before .before .before .before .before .before .before .before .are-persons .ensures) (c .before .before .before .before .before .before .before .before .if1 .left) in
+    known-both (personDeclared (start .args .t) (start .args .s)) (personDeclared (start .args .t) (start .args .u))
+    (are-persons .result) (are-persons .ensures) (if1 .left) in
     sym
-    (start-number _ _ (c .before .before .before .before .before .before .before .before .before .before .before .pre .tables) _ _ (and-both _ _ (known .0) (known .1))
-    ∙ number-level _ _ _ _ (implies-true (inForce (c .before .before .before .before .before .before .before .before .before .before .before .args .t) 0))
-    (refuses _ _ (sym (c .before .before .before .before .before .bit82 .ensures) ∙ not-false _ (c .before .before .before .before .if3 .left)) (rw (← c .before .before .current-level2 .ensures, ← c .before .before .before .current-level .ensures) (sym (c .before .compare .ensures) ∙ c .if4 .left))))
+    (start-number _ _ (start .pre .tables) _ _ (and-both _ _ (known .0) (known .1))
+    ∙ number-level _ _ _ _ (implies-true (inForce (start .args .t) 0))
+    (refuses _ _ (sym (bit82 .ensures)
+    ∙ not-false _ (if3 .left)) (rw (← current-level2 .ensures, ← current-level .ensures) (sym (call-compare .ensures) ∙ c .if4 .left))))
 
 pub judge-start-spec : {M : Type 1} → statement M
 judge-start-spec =

@@ -25,9 +25,15 @@ compare-requires c κs = search needs
 returns : tie.Need-returns
 unfolding inForce
 returns c =
+    let start = c .before .before .before .before .before .before .before in
+    let call-bit8 = c .before .before .before .before .before .bit8 in
+    let if1 = c .before .before .before .before .if1 in
+    let current-level = c .before .before .current-level in
+    let call-compare = c .before .compare in
     sym
-    (number-level _ _ _ _ (implies-true (inForce (c .before .before .before .before .before .before .before .args .t) 0))
-    (refuses _ _ (sym (c .before .before .before .before .before .bit8 .ensures) ∙ c .before .before .before .before .if1 .taken) (rw (← c .before .before .current-level .ensures) (sym (c .before .compare .ensures) ∙ not-true _ (c .if2 .taken)))))
+    (number-level _ _ _ _ (implies-true (inForce (start .args .t) 0))
+    (refuses _ _ (sym (call-bit8 .ensures) ∙ if1 .taken) (rw (← current-level .ensures) (sym (call-compare .ensures)
+    ∙ not-true _ (c .if2 .taken)))))
 
 roles-permit-requires : tie.Need-roles-permit-requires
 roles-permit-requires c κs = search needs
@@ -35,20 +41,28 @@ roles-permit-requires c κs = search needs
 returns-2 : tie.Need-returns-2
 unfolding inForce
 returns-2 c =
+    let start = c .before .before .before .before .before in
+    let call-bit8 = c .before .before .before .bit8 in
+    let if1 = c .before .before .if1 in
+    let roles-permit = c .before .roles-permit in
     sym
-    (number-none _ _ _ _ (implies-true (inForce (c .before .before .before .before .before .args .t) 0)) (passes _ _ (⊎-elim
-    (λ w. inl ((sym (c .before .before .before .bit8 .ensures) ∙ w .0 .taken), rw (← w .2 .ensures) (sym (w .3 .ensures) ∙ not-false _ (w .4 .left))))
-    (λ w. inr (sym (c .before .before .before .bit8 .ensures) ∙ w .left)) (c .before .before .if1 .came)))
-    (passes _ _ (inl (c .before .before .before .before .before .pre .2, sym (c .before .roles-permit .ensures) ∙ c .if3 .taken))))
+    (number-none _ _ _ _ (implies-true (inForce (start .args .t) 0)) (passes _ _ (⊎-elim
+    (λ w. inl ((sym (call-bit8 .ensures) ∙ w .0 .taken), rw (← w .2 .ensures) (sym (w .3 .ensures) ∙ not-false _ (w .4 .left))))
+    (λ w. inr (sym (call-bit8 .ensures) ∙ w .left)) (if1 .came)))
+    (passes _ _ (inl (start .pre .2, sym (roles-permit .ensures) ∙ c .if3 .taken))))
 
 returns-3 : tie.Need-returns-3
 unfolding inForce
 returns-3 c =
+    let start = c .before .before .before .before .before in
+    let call-bit8 = c .before .before .before .bit8 in
+    let if1 = c .before .before .if1 in
+    let roles-permit = c .before .roles-permit in
     sym
-    (number-roles _ _ _ _ (implies-true (inForce (c .before .before .before .before .before .args .t) 0)) (passes _ _ (⊎-elim
-    (λ w. inl ((sym (c .before .before .before .bit8 .ensures) ∙ w .0 .taken), rw (← w .2 .ensures) (sym (w .3 .ensures) ∙ not-false _ (w .4 .left))))
-    (λ w. inr (sym (c .before .before .before .bit8 .ensures) ∙ w .left)) (c .before .before .if1 .came)))
-    (refuses _ _ (c .before .before .before .before .before .pre .2) (sym (c .before .roles-permit .ensures) ∙ c .if3 .left)))
+    (number-roles _ _ _ _ (implies-true (inForce (start .args .t) 0)) (passes _ _ (⊎-elim
+    (λ w. inl ((sym (call-bit8 .ensures) ∙ w .0 .taken), rw (← w .2 .ensures) (sym (w .3 .ensures) ∙ not-false _ (w .4 .left))))
+    (λ w. inr (sym (call-bit8 .ensures) ∙ w .left)) (if1 .came)))
+    (refuses _ _ (start .pre .2) (sym (roles-permit .ensures) ∙ c .if3 .left)))
 
 pub judge-start-past-spec : {M : Type 1} → statement M
 judge-start-past-spec =

@@ -42,19 +42,27 @@ add-judge-access c = search needs
 
 judge-access-requires : tie.Need-judge-access-requires
 judge-access-requires c κs =
+    let start = c .before .before .before .before in
+    let are-declared = c .before .are-declared in
     let known =
-    known-both (personDeclared (c .before .before .before .before .args .t) (c .before .before .before .before .args .s)) (folderDeclared (c .before .before .before .before .args .t) (c .before .before .before .before .args .o))
-    (c .before .are-declared .result) (c .before .are-declared .ensures) (c .if2 .left) in
-    (c .before .before .before .before .pre, known .0, known .1)
+    known-both (personDeclared (start .args .t) (start .args .s)) (folderDeclared (start .args .t) (start .args .o))
+    (are-declared .result) (are-declared .ensures) (c .if2 .left) in
+    (start .pre, known .0, known .1)
 
 returns-3 : tie.Need-returns-3
 returns-3 c =
+    let start = c .before .before .before .before .before .before in
+    let are-declared = c .before .before .before .are-declared in
+    let if2 = c .before .before .if2 in
+    let judge-access = c .before .judge-access in
     let known =
-    known-both (personDeclared (c .before .before .before .before .before .before .args .t) (c .before .before .before .before .before .before .args .s)) (folderDeclared (c .before .before .before .before .before .before .args .t) (c .before .before .before .before .before .before .args .o))
-    (c .before .before .before .are-declared .result) (c .before .before .before .are-declared .ensures) (c .before .before .if2 .left) in
-    let d = step-declared (c .before .before .before .before .before .before .args .t) (c .before .before .before .before .before .before .args .s) (c .before .before .before .before .before .before .args .p) (c .before .before .before .before .before .before .args .o) (known .0) (omega arith) (known .1) in
+    known-both (personDeclared (start .args .t) (start .args .s)) (folderDeclared (start .args .t) (start .args .o))
+    (are-declared .result) (are-declared .ensures) (if2 .left) in
+    let d = step-declared (start .args .t) (start .args .s) (start .args .p) (start .args .o) (known .0) (omega arith) (known .1) in
     sym
-    (before-pipeline _ _ _ _ _ (c .before .judge-access .result) d (c .before .judge-access .ensures ∙ step-number (c .before .before .before .before .before .before .args .t) (setOf (now (c .before .before .before .before .before .before .args .h))) (c .before .before .before .before .before .before .pre .tables) (c .before .before .before .before .before .before .args .s) (c .before .before .before .before .before .before .args .p) (c .before .before .before .before .before .before .args .o) d)
+    (before-pipeline _ _ _ _ _ (judge-access .result) d (judge-access .ensures
+    ∙ step-number (start .args .t) (setOf (now (start .args .h))) (start .pre .tables) (start .args .s) (start .args .p)
+    (start .args .o) d)
     (c .if3 .taken))
 
 bit8-requires : tie.Need-bit8-requires
@@ -63,45 +71,76 @@ bit8-requires c κs = search needs
 returns-4 : tie.Need-returns-4
 unfolding inForce
 returns-4 c =
+    let start = c .before .before .before .before .before .before .before .before in
+    let are-declared = c .before .before .before .before .before .are-declared in
+    let if2 = c .before .before .before .before .if2 in
+    let call-bit8 = c .before .bit8 in
+    let judge-access = c .before .before .before .judge-access in
+    let if3 = c .before .before .if3 in
     let known =
-    known-both (personDeclared (c .before .before .before .before .before .before .before .before .args .t) (c .before .before .before .before .before .before .before .before .args .s)) (folderDeclared (c .before .before .before .before .before .before .before .before .args .t) (c .before .before .before .before .before .before .before .before .args .o))
-    (c .before .before .before .before .before .are-declared .result) (c .before .before .before .before .before .are-declared .ensures) (c .before .before .before .before .if2 .left) in
-    let d = step-declared (c .before .before .before .before .before .before .before .before .args .t) (c .before .before .before .before .before .before .before .before .args .s) (c .before .before .before .before .before .before .before .before .args .p) (c .before .before .before .before .before .before .before .before .args .o) (known .0) (omega arith) (known .1) in
-    let off : inForce (c .before .before .before .before .before .before .before .before .args .t) 3 ≡ false = (sym (c .before .bit8 .ensures) ∙ not-true _ (c .if4 .taken)) in
+    known-both (personDeclared (start .args .t) (start .args .s)) (folderDeclared (start .args .t) (start .args .o))
+    (are-declared .result) (are-declared .ensures) (if2 .left) in
+    let d = step-declared (start .args .t) (start .args .s) (start .args .p) (start .args .o) (known .0) (omega arith) (known .1) in
+    let off : inForce (start .args .t) 3 ≡ false = (sym (call-bit8 .ensures) ∙ not-true _ (c .if4 .taken)) in
     sym
-    (then-pipeline (c .before .before .before .before .before .before .before .before .args .t) (setOf (now (c .before .before .before .before .before .before .before .before .args .h))) _ _ _ d (sym (step-number (c .before .before .before .before .before .before .before .before .args .t) (setOf (now (c .before .before .before .before .before .before .before .before .args .h))) (c .before .before .before .before .before .before .before .before .pre .tables) (c .before .before .before .before .before .before .before .before .args .s) (c .before .before .before .before .before .before .before .before .args .p) (c .before .before .before .before .before .before .before .before .args .o) d) ∙ sym (c .before .before .before .judge-access .ensures) ∙ c .before .before .if3 .left)
+    (then-pipeline (start .args .t) (setOf (now (start .args .h))) _ _ _ d (sym (step-number (start .args .t) (setOf (now
+    (start .args .h))) (start .pre .tables) (start .args .s) (start .args .p) (start .args .o) d) ∙ sym (judge-access .ensures)
+    ∙ if3 .left)
     ∙ rw off)
 
 permits-requires : tie.Need-permits-requires
 permits-requires c κs =
+    let start = c .before .before .before .before .before .before .before .before in
+    let are-declared = c .before .before .before .before .before .are-declared in
+    let if2 = c .before .before .before .before .if2 in
     let known =
-    known-both (personDeclared (c .before .before .before .before .before .before .before .before .args .t) (c .before .before .before .before .before .before .before .before .args .s)) (folderDeclared (c .before .before .before .before .before .before .before .before .args .t) (c .before .before .before .before .before .before .before .before .args .o))
-    (c .before .before .before .before .before .are-declared .result) (c .before .before .before .before .before .are-declared .ensures) (c .before .before .before .before .if2 .left) in
-    (c .before .before .before .before .before .before .before .before .pre .size, known .1, omega arith)
+    known-both (personDeclared (start .args .t) (start .args .s)) (folderDeclared (start .args .t) (start .args .o))
+    (are-declared .result) (are-declared .ensures) (if2 .left) in
+    (start .pre .size, known .1, omega arith)
 
 returns-5 : tie.Need-returns-5
 unfolding inForce
 returns-5 c =
+    let start = c .before .before .before .before .before .before .before .before .before .before in
+    let are-declared = c .before .before .before .before .before .before .before .are-declared in
+    let if2 = c .before .before .before .before .before .before .if2 in
+    let call-bit8 = c .before .before .before .bit8 in
+    let if4 = c .before .before .if4 in
+    let judge-access = c .before .before .before .before .before .judge-access in
+    let if3 = c .before .before .before .before .if3 in
+    let call-permits = c .before .permits in
     let known =
-    known-both (personDeclared (c .before .before .before .before .before .before .before .before .before .before .args .t) (c .before .before .before .before .before .before .before .before .before .before .args .s)) (folderDeclared (c .before .before .before .before .before .before .before .before .before .before .args .t) (c .before .before .before .before .before .before .before .before .before .before .args .o))
-    (c .before .before .before .before .before .before .before .are-declared .result) (c .before .before .before .before .before .before .before .are-declared .ensures) (c .before .before .before .before .before .before .if2 .left) in
-    let d = step-declared (c .before .before .before .before .before .before .before .before .before .before .args .t) (c .before .before .before .before .before .before .before .before .before .before .args .s) (c .before .before .before .before .before .before .before .before .before .before .args .p) (c .before .before .before .before .before .before .before .before .before .before .args .o) (known .0) (omega arith) (known .1) in
-    let on : inForce (c .before .before .before .before .before .before .before .before .before .before .args .t) 3 ≡ true = (sym (c .before .before .before .bit8 .ensures) ∙ not-false _ (c .before .before .if4 .left)) in
+    known-both (personDeclared (start .args .t) (start .args .s)) (folderDeclared (start .args .t) (start .args .o))
+    (are-declared .result) (are-declared .ensures) (if2 .left) in
+    let d = step-declared (start .args .t) (start .args .s) (start .args .p) (start .args .o) (known .0) (omega arith) (known .1) in
+    let on : inForce (start .args .t) 3 ≡ true = (sym (call-bit8 .ensures) ∙ not-false _ (if4 .left)) in
     sym
-    (then-pipeline (c .before .before .before .before .before .before .before .before .before .before .args .t) (setOf (now (c .before .before .before .before .before .before .before .before .before .before .args .h))) _ _ _ d (sym (step-number (c .before .before .before .before .before .before .before .before .before .before .args .t) (setOf (now (c .before .before .before .before .before .before .before .before .before .before .args .h))) (c .before .before .before .before .before .before .before .before .before .before .pre .tables) (c .before .before .before .before .before .before .before .before .before .before .args .s) (c .before .before .before .before .before .before .before .before .before .before .args .p) (c .before .before .before .before .before .before .before .before .before .before .args .o) d) ∙ sym (c .before .before .before .before .before .judge-access .ensures) ∙ c .before .before .before .before .if3 .left)
-    ∙ rw (on, ← c .before .permits .ensures, c .if5 .taken))
+    (then-pipeline (start .args .t) (setOf (now (start .args .h))) _ _ _ d (sym (step-number (start .args .t) (setOf (now
+    (start .args .h))) (start .pre .tables) (start .args .s) (start .args .p) (start .args .o) d) ∙ sym (judge-access .ensures)
+    ∙ if3 .left)
+    ∙ rw (on, ← call-permits .ensures, c .if5 .taken))
 
 returns-6 : tie.Need-returns-6
 unfolding inForce
 returns-6 c =
+    let start = c .before .before .before .before .before .before .before .before .before .before in
+    let are-declared = c .before .before .before .before .before .before .before .are-declared in
+    let if2 = c .before .before .before .before .before .before .if2 in
+    let call-bit8 = c .before .before .before .bit8 in
+    let if4 = c .before .before .if4 in
+    let judge-access = c .before .before .before .before .before .judge-access in
+    let if3 = c .before .before .before .before .if3 in
+    let call-permits = c .before .permits in
     let known =
-    known-both (personDeclared (c .before .before .before .before .before .before .before .before .before .before .args .t) (c .before .before .before .before .before .before .before .before .before .before .args .s)) (folderDeclared (c .before .before .before .before .before .before .before .before .before .before .args .t) (c .before .before .before .before .before .before .before .before .before .before .args .o))
-    (c .before .before .before .before .before .before .before .are-declared .result) (c .before .before .before .before .before .before .before .are-declared .ensures) (c .before .before .before .before .before .before .if2 .left) in
-    let d = step-declared (c .before .before .before .before .before .before .before .before .before .before .args .t) (c .before .before .before .before .before .before .before .before .before .before .args .s) (c .before .before .before .before .before .before .before .before .before .before .args .p) (c .before .before .before .before .before .before .before .before .before .before .args .o) (known .0) (omega arith) (known .1) in
-    let on : inForce (c .before .before .before .before .before .before .before .before .before .before .args .t) 3 ≡ true = (sym (c .before .before .before .bit8 .ensures) ∙ not-false _ (c .before .before .if4 .left)) in
+    known-both (personDeclared (start .args .t) (start .args .s)) (folderDeclared (start .args .t) (start .args .o))
+    (are-declared .result) (are-declared .ensures) (if2 .left) in
+    let d = step-declared (start .args .t) (start .args .s) (start .args .p) (start .args .o) (known .0) (omega arith) (known .1) in
+    let on : inForce (start .args .t) 3 ≡ true = (sym (call-bit8 .ensures) ∙ not-false _ (if4 .left)) in
     sym
-    (then-pipeline (c .before .before .before .before .before .before .before .before .before .before .args .t) (setOf (now (c .before .before .before .before .before .before .before .before .before .before .args .h))) _ _ _ d (sym (step-number (c .before .before .before .before .before .before .before .before .before .before .args .t) (setOf (now (c .before .before .before .before .before .before .before .before .before .before .args .h))) (c .before .before .before .before .before .before .before .before .before .before .pre .tables) (c .before .before .before .before .before .before .before .before .before .before .args .s) (c .before .before .before .before .before .before .before .before .before .before .args .p) (c .before .before .before .before .before .before .before .before .before .before .args .o) d) ∙ sym (c .before .before .before .before .before .judge-access .ensures) ∙ c .before .before .before .before .if3 .left)
-    ∙ rw (on, ← c .before .permits .ensures, c .if5 .left))
+    (then-pipeline (start .args .t) (setOf (now (start .args .h))) _ _ _ d (sym (step-number (start .args .t) (setOf (now
+    (start .args .h))) (start .pre .tables) (start .args .s) (start .args .p) (start .args .o) d) ∙ sym (judge-access .ensures)
+    ∙ if3 .left)
+    ∙ rw (on, ← call-permits .ensures, c .if5 .left))
 
 pub judge-step-spec : {M : Type 1} → statement M
 judge-step-spec =

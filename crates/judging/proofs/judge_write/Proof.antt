@@ -29,17 +29,21 @@ returns c = sym (not-declared _ _ (write _ _) (sym (c .before .are-declared .ens
 
 mul-folder : tie.Need-mul-folder
 mul-folder c =
+    let start = c .before .before .before in
+    let are-declared = c .before .are-declared in
     let known =
-    known-both (personDeclared (c .before .before .before .args .t1) (c .before .before .before .args .s)) (folderDeclared (c .before .before .before .args .t1) (c .before .before .before .args .o))
-    (c .before .are-declared .result) (c .before .are-declared .ensures) (c .if1 .left) in
-    omega (arith, folder-below (c .before .before .before .args .t1) (c .before .before .before .args .o) (known .1))
+    known-both (personDeclared (start .args .t1) (start .args .s)) (folderDeclared (start .args .t1) (start .args .o))
+    (are-declared .result) (are-declared .ensures) (c .if1 .left) in
+    omega (arith, folder-below (start .args .t1) (start .args .o) (known .1))
 
 element-copy-out-folder : tie.Need-element-copy-out-folder
 element-copy-out-folder c =
+    let start = c .before .before .before in
+    let are-declared = c .before .are-declared in
     let known =
-    known-both (personDeclared (c .before .before .before .args .t1) (c .before .before .before .args .s)) (folderDeclared (c .before .before .before .args .t1) (c .before .before .before .args .o))
-    (c .before .are-declared .result) (c .before .are-declared .ensures) (c .if1 .left) in
-    folder-below (c .before .before .before .args .t1) (c .before .before .before .args .o) (known .1)
+    known-both (personDeclared (start .args .t1) (start .args .s)) (folderDeclared (start .args .t1) (start .args .o))
+    (are-declared .result) (are-declared .ensures) (c .if1 .left) in
+    folder-below (start .args .t1) (start .args .o) (known .1)
 
 wide-requires : tie.Need-wide-requires
 wide-requires c κs = search needs
@@ -49,20 +53,28 @@ add-judge-access c = search needs
 
 judge-access-requires : tie.Need-judge-access-requires
 judge-access-requires c κs =
+    let start = c .before .before .before .before .before in
+    let are-declared = c .before .before .before .are-declared in
+    let if1 = c .before .before .if1 in
     let known =
-    known-both (personDeclared (c .before .before .before .before .before .args .t1) (c .before .before .before .before .before .args .s)) (folderDeclared (c .before .before .before .before .before .args .t1) (c .before .before .before .before .before .args .o))
-    (c .before .before .before .are-declared .result) (c .before .before .before .are-declared .ensures) (c .before .before .if1 .left) in
-    (c .before .before .before .before .before .pre, known .0, known .1)
+    known-both (personDeclared (start .args .t1) (start .args .s)) (folderDeclared (start .args .t1) (start .args .o))
+    (are-declared .result) (are-declared .ensures) (if1 .left) in
+    (start .pre, known .0, known .1)
 
 returns-2 : tie.Need-returns-2
 unfolding declared
 returns-2 c =
+    let start = c .before .before .before .before .before .before in
+    let are-declared = c .before .before .before .before .are-declared in
+    let if1 = c .before .before .before .if1 in
+    let call-wide = c .before .wide in
     let known =
-    known-both (personDeclared (c .before .before .before .before .before .before .args .t1) (c .before .before .before .before .before .before .args .s)) (folderDeclared (c .before .before .before .before .before .before .args .t1) (c .before .before .before .before .before .before .args .o))
-    (c .before .before .before .before .are-declared .result) (c .before .before .before .before .are-declared .ensures) (c .before .before .before .if1 .left) in
+    known-both (personDeclared (start .args .t1) (start .args .s)) (folderDeclared (start .args .t1) (start .args .o))
+    (are-declared .result) (are-declared .ensures) (if1 .left) in
     c .judge-access .ensures
-    ∙ ap (λ (n : ℕ). accessNumber (c .before .before .before .before .before .before .args .t1) (setOf (now (c .before .before .before .before .before .before .args .h))) (c .before .before .before .before .before .before .args .s) (c .before .before .before .before .before .before .args .o) (16 + n) true) (c .before .wide .ensures .0)
-    ∙ sym (write-number _ _ (c .before .before .before .before .before .before .pre .tables) _ _ (and-both _ _ (known .0) (known .1)))
+    ∙ ap (λ (n : ℕ). accessNumber (start .args .t1) (setOf (now (start .args .h))) (start .args .s) (start .args .o) (16 + n) true)
+    (call-wide .ensures .0)
+    ∙ sym (write-number _ _ (start .pre .tables) _ _ (and-both _ _ (known .0) (known .1)))
 
 pub judge-write-spec : {M : Type 1} → statement M
 judge-write-spec =

@@ -18,7 +18,10 @@ judge-bytes-requires : tie.Need-judge-bytes-requires
 judge-bytes-requires c κs = passed-ready _ _ (sym (c .before .checked .ensures) ∙ c .if1 .left)
 
 returns-2 : tie.Need-returns-2
-returns-2 c = c .judge-bytes .ensures ∙ judge-ready _ _ _ (passed-ready _ _ (sym (c .before .before .checked .ensures) ∙ c .before .if1 .left))
+returns-2 c =
+    let call-checked = c .before .before .checked in
+    let if1 = c .before .if1 in
+    c .judge-bytes .ensures ∙ judge-ready _ _ _ (passed-ready _ _ (sym (call-checked .ensures) ∙ if1 .left))
 
 pub judge-spec : {M : Type 1} → statement M
 judge-spec = tie.close (tie.spec checked-requires returns judge-bytes-requires returns-2)

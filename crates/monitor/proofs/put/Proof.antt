@@ -28,9 +28,12 @@ same-length-2 c = search needs
 
 returns-2 : tie.Need-returns-2
 returns-2 c =
-    let ready = passed-ready _ _ (sym (c .before .before .before .before .before .checked .ensures) ∙ c .before .before .before .before .if1 .left) in (
-      c .before .before .put-ready .ensures .0 ∙ judge-ready _ _ _ ready,
-      c .before .before .put-ready .ensures .1 ∙ put-ready _ _ _ ready (c .before .before .put-ready .result) (c .before .before .put-ready .ensures .0),
+    let call-checked = c .before .before .before .before .before .checked in
+    let call-if1 = c .before .before .before .before .if1 in
+    let call-put-ready = c .before .before .put-ready in
+    let ready = passed-ready _ _ (sym (call-checked .ensures) ∙ call-if1 .left) in (
+      call-put-ready .ensures .0 ∙ judge-ready _ _ _ ready,
+      call-put-ready .ensures .1 ∙ put-ready _ _ _ ready (call-put-ready .result) (call-put-ready .ensures .0),
     )
 
 pub put-spec : {M : Type 1} → statement M

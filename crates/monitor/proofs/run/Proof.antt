@@ -20,7 +20,10 @@ same-length : tie.Need-same-length
 same-length c = search needs
 
 returns : tie.Need-returns
-returns c = rw (c .no-run .ensures) (run-stopped _ _ _ _ (c .before .before .checked .result) (c .before .before .checked .ensures) (c .before .if1 .taken))
+returns c =
+    let call-checked = c .before .before .checked in
+    let if1 = c .before .if1 in
+    rw (c .no-run .ensures) (run-stopped _ _ _ _ (call-checked .result) (call-checked .ensures) (if1 .taken))
 
 answers-due-requires : tie.Need-answers-due-requires
 answers-due-requires c κs = search needs
@@ -32,10 +35,20 @@ same-length-2 : tie.Need-same-length-2
 same-length-2 c = search needs
 
 returns-2 : tie.Need-returns-2
-returns-2 c = rw (c .no-run2 .ensures) (run-without-room _ _ _ _ (sym (c .before .before .before .before .checked .ensures) ∙ c .before .before .before .if1 .left) (rw (← c .before .before .answers-due .ensures) (c .before .if2 .taken)))
+returns-2 c =
+    let call-checked = c .before .before .before .before .checked in
+    let if1 = c .before .before .before .if1 in
+    let answers-due = c .before .before .answers-due in
+    let if2 = c .before .if2 in
+    rw (c .no-run2 .ensures) (run-without-room _ _ _ _ (sym (call-checked .ensures) ∙ if1 .left) (rw (← answers-due .ensures) (if2 .taken)))
 
 run-ready-requires : tie.Need-run-ready-requires
-run-ready-requires c κs = (passed-ready _ _ (sym (c .before .before .before .before .before .checked .ensures) ∙ c .before .before .before .before .if1 .left), rw (← c .before .before .before .answers-due .ensures) (c .before .before .if2 .left))
+run-ready-requires c κs =
+    let call-checked = c .before .before .before .before .before .checked in
+    let if1 = c .before .before .before .before .if1 in
+    let answers-due = c .before .before .before .answers-due in
+    let if2 = c .before .before .if2 in
+    (passed-ready _ _ (sym (call-checked .ensures) ∙ if1 .left), rw (← answers-due .ensures) (if2 .left))
 
 same-length-3 : tie.Need-same-length-3
 same-length-3 c = search needs
@@ -45,8 +58,13 @@ same-length-4 c = search needs
 
 returns-3 : tie.Need-returns-3
 returns-3 c =
-    let done = c .before .before .before .before .run-ready .ensures in
-    run-done _ _ _ _ (sym (c .before .before .before .before .before .before .before .before .before .before .checked .ensures) ∙ c .before .before .before .before .before .before .before .before .before .if1 .left) (rw (← c .before .before .before .before .before .before .before .before .answers-due .ensures) (c .before .before .before .before .before .before .before .if2 .left)) _ _ _ _
+    let run-ready = c .before .before .before .before .run-ready in
+    let call-checked = c .before .before .before .before .before .before .before .before .before .before .checked in
+    let if1 = c .before .before .before .before .before .before .before .before .before .if1 in
+    let answers-due = c .before .before .before .before .before .before .before .before .answers-due in
+    let if2 = c .before .before .before .before .before .before .before .if2 in
+    let done = run-ready .ensures in
+    run-done _ _ _ _ (sym (call-checked .ensures) ∙ if1 .left) (rw (← answers-due .ensures) (if2 .left)) _ _ _ _
     (done .granted) (done .refused) (done .history) (done .answers)
 
 pub run-spec : {M : Type 1} → statement M

@@ -24,7 +24,10 @@ no-standing-requires : tie.Need-no-standing-requires
 no-standing-requires c κs = search needs
 
 returns : tie.Need-returns
-returns c = c .no-standing .ensures ∙ standing-refused _ _ _ (c .before .before .checked .result) (c .before .before .checked .ensures) (c .before .if1 .taken)
+returns c =
+    let call-checked = c .before .before .checked in
+    let if1 = c .before .if1 in
+    c .no-standing .ensures ∙ standing-refused _ _ _ (call-checked .result) (call-checked .ensures) (if1 .taken)
 
 wide-requires : tie.Need-wide-requires
 wide-requires c κs = search needs
@@ -37,14 +40,23 @@ no-standing-requires-2 c κs = search needs
 
 returns-2 : tie.Need-returns-2
 returns-2 c =
+    let call-checked = c .before .before .before .before .before .checked in
+    let if1 = c .before .before .before .before .if1 in
+    let start = c .before .before .before .before .before .before .before in
+    let call-wide = c .before .before .before .wide in
+    let is-person = c .before .before .is-person in
+    let if2 = c .before .if2 in
     c .no-standing2 .ensures
-    ∙ standing-undeclared _ _ _ (sym (c .before .before .before .before .before .checked .ensures) ∙ c .before .before .before .before .if1 .left)
-    (ap (personDeclared (c .before .before .before .before .before .before .before .args .t)) (sym (c .before .before .before .wide .ensures .0)) ∙ sym (c .before .before .is-person .ensures) ∙ not-true _ (c .before .if2 .taken))
+    ∙ standing-undeclared _ _ _ (sym (call-checked .ensures) ∙ if1 .left)
+    (ap (personDeclared (start .args .t)) (sym (call-wide .ensures .0)) ∙ sym (is-person .ensures) ∙ not-true _ (if2 .taken))
 
 past-of-requires : tie.Need-past-of-requires
 past-of-requires c κs =
-    let ready = passed-ready _ _ (sym (c .before .before .before .before .checked .ensures) ∙ c .before .before .before .if1 .left) in
-    (ready .size, ready .tables, sym (c .before .is-person .ensures) ∙ not-false _ (c .if2 .left))
+    let call-checked = c .before .before .before .before .checked in
+    let if1 = c .before .before .before .if1 in
+    let is-person = c .before .is-person in
+    let ready = passed-ready _ _ (sym (call-checked .ensures) ∙ if1 .left) in
+    (ready .size, ready .tables, sym (is-person .ensures) ∙ not-false _ (c .if2 .left))
 
 count64-requires : tie.Need-count64-requires
 count64-requires c κs = search needs
@@ -54,11 +66,19 @@ count64-requires-2 c κs = search needs
 
 returns-3 : tie.Need-returns-3
 returns-3 c =
-    standing-is _ _ _ (sym (c .before .before .before .before .before .before .before .before .checked .ensures) ∙ c .before .before .before .before .before .before .before .if1 .left)
-    (ap (personDeclared (c .before .before .before .before .before .before .before .before .before .before .args .t)) (sym (c .before .before .before .before .before .before .wide .ensures .0)) ∙ sym (c .before .before .before .before .before .is-person .ensures) ∙ not-false _ (c .before .before .before .before .if2 .left))
-    (c .before .before .before .past-of .result) (c .before .count64 .result) (c .count642 .result)
-    (c .before .before .before .past-of .ensures ∙ ap (pastOf (c .before .before .before .before .before .before .before .before .before .before .args .t) (setOf (now (c .before .before .before .before .before .before .before .before .before .before .args .h)))) (c .before .before .before .before .before .before .wide .ensures .0))
-    (c .before .count64 .ensures) (c .count642 .ensures)
+    let call-checked = c .before .before .before .before .before .before .before .before .checked in
+    let if1 = c .before .before .before .before .before .before .before .if1 in
+    let start = c .before .before .before .before .before .before .before .before .before .before in
+    let call-wide = c .before .before .before .before .before .before .wide in
+    let is-person = c .before .before .before .before .before .is-person in
+    let if2 = c .before .before .before .before .if2 in
+    let past-of = c .before .before .before .past-of in
+    let call-count64 = c .before .count64 in
+    standing-is _ _ _ (sym (call-checked .ensures) ∙ if1 .left)
+    (ap (personDeclared (start .args .t)) (sym (call-wide .ensures .0)) ∙ sym (is-person .ensures) ∙ not-false _ (if2 .left))
+    (past-of .result) (call-count64 .result) (c .count642 .result)
+    (past-of .ensures ∙ ap (pastOf (start .args .t) (setOf (now (start .args .h)))) (call-wide .ensures .0))
+    (call-count64 .ensures) (c .count642 .ensures)
 
 pub standing-spec : {M : Type 1} → statement M
 standing-spec =

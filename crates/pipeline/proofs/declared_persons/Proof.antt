@@ -47,7 +47,10 @@ loop-again c =
     )
 
 returns : tie.Need-returns Inv-loop μ-loop
-returns c = let e : c .before .loop .s ≡ 64 = omega arith in c .before .loop .inv .1 ∙ ap (λ (n : ℕ). maskBelow n (personDeclared (c .before .before .args .t1))) e
+returns c =
+    let loop = c .before .loop in
+    let start = c .before .before in
+    let e : loop .s ≡ 64 = omega arith in loop .inv .1 ∙ ap (λ (n : ℕ). maskBelow n (personDeclared (start .args .t1))) e
 
 pub declared-persons-spec : {M : Type 1} → statement M
 declared-persons-spec =

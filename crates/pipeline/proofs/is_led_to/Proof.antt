@@ -33,7 +33,9 @@ leads-to-requires c κs = search needs
 returns : tie.Need-returns Inv-loop μ-loop
 unfolding leadsAmong
 returns c =
-    sym (some-any 16 _ (c .before .before .before .before .loop .p) (omega arith) (sym (c .before .leads-to .ensures) ∙ c .if1 .taken))
+    let call-loop = c .before .before .before .before .loop in
+    let call-leads-to = c .before .leads-to in
+    sym (some-any 16 _ (call-loop .p) (omega arith) (sym (call-leads-to .ensures) ∙ c .if1 .taken))
 
 add-p : tie.Need-add-p Inv-loop μ-loop
 add-p c = search needs

@@ -18,10 +18,14 @@ steps-done-requires c κs = (c .before .before .pre .0, folder-below _ _ (c .bef
 
 returns : tie.Need-returns
 returns c =
-    none-done _ _ _ (c .before .steps-done .result) _
-    (done-set _ _ (λ i. c .before .before .before .shared-slice-known .given i .fits) _ (c .before .before .before .before .pre .1)
-    (c .before .before .declared-persons .result) (c .before .steps-done .result) (c .before .before .declared-persons .ensures)
-    (c .before .steps-done .ensures))
+    let steps-done = c .before .steps-done in
+    let shared-slice-known = c .before .before .before .shared-slice-known in
+    let start = c .before .before .before .before in
+    let declared-persons = c .before .before .declared-persons in
+    none-done _ _ _ (steps-done .result) _
+    (done-set _ _ (λ i. shared-slice-known .given i .fits) _ (start .pre .1)
+    (declared-persons .result) (steps-done .result) (declared-persons .ensures)
+    (steps-done .ensures))
     (c .if1 .taken)
 
 is-led-to-requires : tie.Need-is-led-to-requires
@@ -29,13 +33,18 @@ is-led-to-requires c κs = search needs
 
 returns-2 : tie.Need-returns-2
 returns-2 c =
+    let steps-done = c .before .before .before .before .steps-done in
+    let shared-slice-known = c .before .before .before .before .before .before .shared-slice-known in
+    let start = c .before .before .before .before .before .before .before in
+    let declared-persons = c .before .before .before .before .before .declared-persons in
+    let if1 = c .before .before .before .if1 in
     c .is-led-to .ensures
-    ∙ led-to _ _ _ (c .before .before .before .before .steps-done .result) _
-    (done-set _ _ (λ i. c .before .before .before .before .before .before .shared-slice-known .given i .fits) _
-    (c .before .before .before .before .before .before .before .pre .1)
-    (c .before .before .before .before .before .declared-persons .result) (c .before .before .before .before .steps-done .result)
-    (c .before .before .before .before .before .declared-persons .ensures) (c .before .before .before .before .steps-done .ensures))
-    (c .before .before .before .if1 .left) (c .before .before .before .before .before .before .before .pre .2)
+    ∙ led-to _ _ _ (steps-done .result) _
+    (done-set _ _ (λ i. shared-slice-known .given i .fits) _
+    (start .pre .1)
+    (declared-persons .result) (steps-done .result)
+    (declared-persons .ensures) (steps-done .ensures))
+    (if1 .left) (start .pre .2)
 
 pub permits-spec : {M : Type 1} → statement M
 permits-spec =
