@@ -1,4 +1,5 @@
--- One put. A granted request is some request, since none is judged 12; so the bit of its index is the one that the history records.
+-- One put. Where the bytes hold no request the number is 12, so a granted request is there, and the bit of its index is the one that the
+-- history records.
 use Prim.Native.Nat.{ℕ}
 use native.Mathlib.Omega.{arith}
 use mathlib.Core.Path.{_≡_, refl, sym, ap, _∙_}

@@ -1,5 +1,5 @@
--- `running::answers_due` counts a record for each turn: the count and the answers due for the rest of the requests are always the answers due
--- for all of them.
+-- `running::answers_due` counts a record for each turn: the count and the answers due for the rest of the requests are always the answers
+-- due for all of them.
 use Prim.Native.Nat.{_+_, _-_, _≤_}
 use native.Mathlib.Omega.{arith}
 use mathlib.Core.Path.{_≡_}

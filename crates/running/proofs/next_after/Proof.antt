@@ -12,7 +12,9 @@ returns : tie.Need-returns
 returns c = sym (next-none (c .before .before .args .parsed) _ (sym (c .before .record-length .ensures) ∙ c .if1 .taken))
 
 returns-2 : tie.Need-returns-2
-returns-2 c = c .before .record-length .ensures ∙ sym (next-some (c .before .before .args .parsed) _ (λ z. c .if1 .left (c .before .record-length .ensures ∙ z)))
+returns-2 c =
+    let length = c .before .record-length .ensures in
+    length ∙ sym (next-some (c .before .before .args .parsed) _ (λ z. c .if1 .left (length ∙ z)))
 
 pub next-after-spec : {M : Type 1} → statement M
 next-after-spec = tie.close (tie.spec record-length-requires returns returns-2)

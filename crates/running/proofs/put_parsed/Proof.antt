@@ -21,7 +21,8 @@ returns : tie.Need-returns
 returns c =
     let judged = c .before .before .before .before .before .before .judge-parsed .ensures in
     let index = c .before .before .before .index .ensures in
-    (judged, c .before .before .set-bit .ensures ∙ rw index (put-granted _ _ _ _ _ judged (c .before .before .before .before .before .if1 .taken)))
+    let zero = c .before .before .before .before .before .if1 .taken in
+    (judged, c .before .before .set-bit .ensures ∙ rw index (put-granted _ _ _ _ _ judged zero))
 
 same-length-2 : tie.Need-same-length-2
 same-length-2 c = search needs

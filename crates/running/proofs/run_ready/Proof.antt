@@ -1,5 +1,5 @@
--- `running::run_ready` puts the requests one after another: before each turn, what is written and what the rest of the requests gives on the
--- history so far are what the whole run gives.
+-- `running::run_ready` puts the requests one after another: before each turn, what is written and what the rest of the requests gives on
+-- the history so far are what the whole run gives.
 use Prim.Native.Nat.{_-_, _≤_}
 use native.Mathlib.Omega.{arith}
 use mathlib.Core.Path.{_≡_, sym, _∙_}
@@ -21,7 +21,8 @@ abbrev μ-loop : tie.MeasureT-loop
 μ-loop t h₀ requests answers₀ at₀ i₀ granted₀ h answers at i granted = length requests - at
 
 loop-holds : tie.Need-loop-holds Inv-loop μ-loop
-loop-holds c = (c .before .before .before .pre .1, search needs, search needs, search needs, done-none (c .before .before .before .pre .0))
+loop-holds c =
+    let (ready, room) = c .before .before .before .pre in (room, search needs, search needs, search needs, done-none ready)
 
 sub-run-turn : tie.Need-sub-run-turn Inv-loop μ-loop
 sub-run-turn c = search needs
@@ -56,23 +57,26 @@ add-granted c =
 
 add-at : tie.Need-add-at Inv-loop μ-loop
 add-at c =
-    let going = c .before .before .before .before .before .before .before .before .loop in
-    let requests = c .before .before .before .before .before .before .before .before .before .before .before .before .args .requests .now in
-    let turn = rw part-to-end at (c .before .before .before .before .run-turn .ensures) in
+    let turned = c .before .before .before .before in
+    let going = turned .before .before .before .before .loop in
+    let requests = turned .before .before .before .before .before .before .before .before .args .requests .now in
+    let turn = rw part-to-end at (turned .run-turn .ensures) in
     omega (arith, turn .onward, next-at-within requests (going .at) (omega arith))
 
 loop-less : tie.Need-loop-less Inv-loop μ-loop
 loop-less c =
-    let going = c .before .before .before .before .before .before .before .before .loop in
-    let requests = c .before .before .before .before .before .before .before .before .before .before .before .before .args .requests .now in
-    let turn = rw part-to-end at (c .before .before .before .before .run-turn .ensures) in
+    let turned = c .before .before .before .before in
+    let going = turned .before .before .before .before .loop in
+    let requests = turned .before .before .before .before .before .before .before .before .args .requests .now in
+    let turn = rw part-to-end at (turned .run-turn .ensures) in
     omega (arith, turn .onward, next-at-within requests (going .at) (omega arith), next-at-further requests (going .at) (omega arith))
 
 loop-again : tie.Need-loop-again Inv-loop μ-loop
 loop-again c =
-    let going = c .before .before .before .before .before .before .before .before .loop in
-    let requests = c .before .before .before .before .before .before .before .before .before .before .before .before .args .requests .now in
-    let turn = rw part-to-end at (c .before .before .before .before .run-turn .ensures) in
+    let turned = c .before .before .before .before in
+    let going = turned .before .before .before .before .loop in
+    let requests = turned .before .before .before .before .before .before .before .before .args .requests .now in
+    let turn = rw part-to-end at (turned .run-turn .ensures) in
     let (room, _, _, same, done) = going .inv in
     let further = next-at-further requests (going .at) (omega arith) in
     let due = done-due done in
@@ -85,7 +89,7 @@ loop-again c =
     )
 
 sub-refused : tie.Need-sub-refused Inv-loop μ-loop
-sub-refused c = done-granted (c .before .loop .inv .4)
+sub-refused c = omega (arith, done-granted (c .before .loop .inv .4))
 
 same-length : tie.Need-same-length Inv-loop μ-loop
 same-length c = c .before .loop .inv .4 .ready .size ∙ sym (c .before .before .before .before .before .pre .0 .size)

@@ -18,9 +18,10 @@ same-length c = search needs
 
 returns : tie.Need-returns
 returns c =
-    let start = c .before .before .before .before .before .before .before .before in
+    let ready = c .before .before .before .before .before .before .before .before .pre in
+    let parsed = c .before .before .before .before .before .parse .ensures in
     let put = c .before .before .before .put-parsed .ensures in
-    rw (c .next-after .ensures) (put-turned _ _ _ _ _ _ (start .pre) (c .before .before .before .before .before .parse .ensures) (put .0) (put .1))
+    rw (c .next-after .ensures) (put-turned _ _ _ _ _ _ ready parsed (put .0) (put .1))
 
 pub run-turn-spec : {M : Type 1} → statement M
 run-turn-spec =
