@@ -71,7 +71,7 @@ unfolding putNumbers
 numbers-length t h [] = refl
 numbers-length t h (bytes ∷ calls) = ap suc (numbers-length t (putHistory t h bytes) calls)
 
-counted-once : (numbers : List ℕ) → grantedIn numbers + refusedIn numbers ≡ length numbers
+pub counted-once : (numbers : List ℕ) → grantedIn numbers + refusedIn numbers ≡ length numbers
 unfolding grantedIn refusedIn
 counted-once [] = refl
 counted-once (n ∷ numbers) =

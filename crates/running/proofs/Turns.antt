@@ -26,7 +26,7 @@ use Rattle.policy.specs.Calls.{
   grantedIn,
   refusedIn,
 }
-use Rattle.policy.proofs.Runs.{numbers-length}
+use Rattle.policy.proofs.Runs.{numbers-length, counted-once}
 use Rattle.judging.specs.Judging.{Ready}
 use Rattle.running.specs.Running.{runNumbers, Turned, Finished}
 use Rattle.running.proofs.Records.{calls-at, none-left, none-due}
@@ -53,11 +53,6 @@ granted-more : (l : List ℕ) (n : ℕ) → grantedIn (l ++ n ∷ []) ≡ grante
 unfolding grantedIn
 granted-more [] n = omega arith
 granted-more (m ∷ l) n = omega (arith, granted-more l n)
-
-counted : (l : List ℕ) → grantedIn l + refusedIn l ≡ length l
-unfolding grantedIn refusedIn
-counted [] = refl
-counted (n ∷ l) = let rest = counted l in ⊎-elim (λ e. rw e (omega arith)) (λ e. rw e (omega arith)) (decide (eqb n 0))
 
 -- ---- the answers written
 
@@ -87,7 +82,7 @@ module _ {t : Tables} {h₀ requests answers₀ : List ℕ} {at i granted : ℕ}
     (done : Done t h₀ requests answers₀ at i granted h answers) where
   -- no more are granted than put
   pub done-granted : granted ≤ i
-  done-granted = omega (arith, done .zeros, done .many, counted (done .written))
+  done-granted = omega (arith, done .zeros, done .many, counted-once (done .written))
 
   -- the answers due are those written and those of the rest
   pub done-due : answersDue requests ≡ i + answersDue (drop at requests)
@@ -120,7 +115,7 @@ module _ {t : Tables} {h₀ requests answers₀ : List ℕ} {at i granted : ℕ}
   done-all end =
       let none = none-left requests at end in
       let all : runNumbers t h₀ requests ≡ done .written = done .numbers ∙ rw none (append-nil (done .written)) in
-      let both = counted (done .written) in
+      let both = counted-once (done .written) in
       let due : answersDue requests ≡ i = omega (arith, done-due, none-due requests at end) in
       record {
         granted = rw all (done .zeros);
