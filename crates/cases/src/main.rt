@@ -1,0 +1,160 @@
+// The program `cases`: plays a file of calls from standard input on the monitor, and prints a line for each call on standard output.
+// The format of the file and of the lines is that of reference/FORMAT.md; nothing is judged here. Of a longer input it takes the first
+// 327,680 bytes.
+use libc::STDIN_FILENO;
+use policy::Tables;
+
+mod digest;
+mod fields;
+mod line;
+mod reading;
+
+// The bytes of the history buffer.
+const HISTORY: usize = 18960;
+
+// Loads a book, prints its line, and answers the tables.
+fn play_load(book: &[u8]) -> Tables {
+    let loaded = monitor::load(book);
+    let left = monitor::rest(book);
+    let t = loaded.tables;
+    let numbers = [
+        loaded.number as u64,
+        loaded.offset as u64,
+        left.len() as u64,
+        digest::of_tables(t),
+    ];
+    line::print(b"load", &numbers);
+    t
+}
+
+// Blanks a history and prints its line.
+fn play_blank(s: &[u8], h: &mut [u8]) {
+    let front = reading::front(reading::pair(s, 1), h);
+    let number = monitor::blank(&mut h[..front]);
+    let numbers = [number as u64, digest::of_bytes(h)];
+    line::print(b"blank", &numbers);
+}
+
+// Judges a request and prints its line.
+fn play_judge(t: Tables, s: &[u8], h: &[u8]) {
+    let front = reading::front(reading::pair(s, 1), h);
+    let number = monitor::judge(t, &h[..front], reading::after(s, 4));
+    let numbers = [number as u64];
+    line::print(b"judge", &numbers);
+}
+
+// Puts a request and prints its line.
+fn play_put(t: Tables, s: &[u8], h: &mut [u8]) {
+    let front = reading::front(reading::pair(s, 1), h);
+    let number = monitor::put(t, &mut h[..front], reading::after(s, 4));
+    let numbers = [number as u64, digest::of_bytes(h)];
+    line::print(b"put", &numbers);
+}
+
+// Runs requests and prints the run's line.
+fn play_run(t: Tables, s: &[u8], h: &mut [u8], answers: &mut [u8]) {
+    let front = reading::front(reading::pair(s, 1), h);
+    let room = reading::front(reading::pair(s, 3), answers);
+    let ran = monitor::run(
+        t,
+        &mut h[..front],
+        reading::after(s, 7),
+        &mut answers[..room],
+    );
+    let numbers = [
+        ran.number as u64,
+        ran.granted as u64,
+        ran.refused as u64,
+        digest::of_bytes(h),
+        digest::of_bytes(answers),
+    ];
+    line::print(b"run", &numbers);
+}
+
+// Asks for a person's standing and prints its line.
+fn play_standing(t: Tables, s: &[u8], h: &[u8]) {
+    let front = reading::front(reading::pair(s, 1), h);
+    let found = monitor::standing(t, &h[..front], reading::byte(s, 3));
+    let level = found.level;
+    let numbers = [
+        found.number as u64,
+        level.0 as u64,
+        found.rights as u64,
+        found.firms as u64,
+    ];
+    line::print(b"standing", &numbers);
+}
+
+// Sets one byte of the history buffer.
+fn play_byte(s: &[u8], h: &mut [u8]) {
+    let at = reading::pair(s, 1) % HISTORY;
+    if at < h.len() {
+        h[at] = reading::byte(s, 3);
+    }
+}
+
+// Sets every byte of the answer buffer.
+fn play_fill(value: u8, answers: &mut [u8]) {
+    let mut i = 0;
+    while i < answers.len() {
+        answers[i] = value;
+        i += 1;
+    }
+}
+
+// Plays a command that leaves the tables as they are.
+fn play_call(t: Tables, s: &[u8], h: &mut [u8], answers: &mut [u8]) {
+    match reading::byte(s, 0) {
+        2 => play_blank(s, h),
+        3 => play_judge(t, s, h),
+        4 => play_put(t, s, h),
+        5 => play_run(t, s, h, answers),
+        6 => play_standing(t, s, h),
+        8 => play_byte(s, h),
+        9 => play_fill(reading::byte(s, 1), answers),
+        _ => (),
+    }
+}
+
+// Plays a command, and answers the tables after it.
+fn play(t: Tables, s: &[u8], h: &mut [u8], answers: &mut [u8]) -> Tables {
+    let kind = reading::byte(s, 0);
+    if kind == 1 {
+        return play_load(reading::after(s, 3));
+    }
+    if kind == 7 {
+        return fields::changed(
+            t,
+            reading::byte(s, 1),
+            reading::byte(s, 2) as usize,
+            reading::number(s, 3),
+        );
+    }
+    play_call(t, s, h, answers);
+    t
+}
+
+// Plays the commands one after another, from the tables of the empty book.
+fn play_all(calls: &[u8], h: &mut [u8], answers: &mut [u8]) {
+    let start = monitor::load(b"");
+    let mut t = start.tables;
+    let mut at = 0;
+    while at < calls.len() {
+        let len = reading::command(&calls[at..]);
+        if len == 0 {
+            return;
+        }
+        let next = at + len;
+        let u = play(t, &calls[at..next], h, answers);
+        t = u;
+        at = next;
+    }
+}
+
+fn main() {
+    let mut calls = [0u8; 327680];
+    let mut history = [0u8; HISTORY];
+    let mut answers = [0u8; 4096];
+    let n = io::read_full(STDIN_FILENO, &mut calls);
+    play_all(&calls[..n], &mut history, &mut answers);
+}

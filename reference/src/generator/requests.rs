@@ -1,0 +1,150 @@
+//! Requests for the files of calls: mostly of declared parties, and a good
+//! part of them granted.
+
+use super::{Generator, WHOLE};
+use crate::history::{set_of, History};
+use crate::numbers::GRANTED;
+use crate::request::Request;
+use crate::rules::judge_request;
+use crate::tables::given;
+
+impl Generator {
+    /// The set of requests in the player's history.
+    pub fn history_now(&self) -> History {
+        set_of(&self.player.history[..usize::from(WHOLE)])
+    }
+
+    pub fn declared_persons(&self) -> Vec<u8> {
+        (0..64)
+            .filter(|person| self.player.tables.person_declared(*person))
+            .collect()
+    }
+
+    pub fn declared_folders(&self) -> Vec<u8> {
+        (0..128)
+            .filter(|folder| self.player.tables.folder_declared(*folder))
+            .collect()
+    }
+
+    /// Mostly one of the declared numbers, else one in range, else any byte.
+    fn mostly_of(&mut self, declared: &[u8], limit: usize) -> u8 {
+        let choice = self.random.below(100);
+        if choice < 94 && !declared.is_empty() {
+            self.random.pick(declared)
+        } else if choice < 98 {
+            self.random.below(limit) as u8
+        } else {
+            self.random.byte()
+        }
+    }
+
+    pub fn some_person(&mut self) -> u8 {
+        let declared = self.declared_persons();
+        self.mostly_of(&declared, 64)
+    }
+
+    pub fn some_folder(&mut self) -> u8 {
+        let declared = self.declared_folders();
+        self.mostly_of(&declared, 128)
+    }
+
+    fn some_step(&mut self) -> u8 {
+        if self.random.chance(98) {
+            self.random.below(16) as u8
+        } else {
+            self.random.byte()
+        }
+    }
+
+    pub fn some_request(&mut self) -> Request {
+        let person = self.some_person();
+        match self.random.below(10) {
+            0..=2 => Request::Read {
+                person,
+                folder: self.some_folder(),
+            },
+            3..=4 => Request::Write {
+                person,
+                folder: self.some_folder(),
+            },
+            5..=6 => Request::Start {
+                person,
+                other: self.some_person(),
+            },
+            _ => Request::Step {
+                person,
+                step: self.some_step(),
+                folder: self.some_folder(),
+            },
+        }
+    }
+
+    /// Tables that no load gives grant nothing.
+    fn would_grant(&self, history: &History, request: &Request) -> bool {
+        let tables = &self.player.tables;
+        given(tables) && judge_request(tables, history, request) == GRANTED
+    }
+
+    /// A request that would be granted and is not in the history yet, if a
+    /// few tries find one.
+    pub fn likely_granted(&mut self, history: &History) -> Request {
+        let mut request = self.some_request();
+        for _ in 0..16 {
+            if self.would_grant(history, &request) && !history.contains(&request) {
+                break;
+            }
+            request = self.some_request();
+        }
+        request
+    }
+
+    /// Records of a list that begins at the player's history: new requests
+    /// that are mostly granted, repeats, and requests as they come.
+    pub fn some_list(&mut self, count: usize) -> Vec<Vec<u8>> {
+        let mut history = self.history_now();
+        let mut earlier: Vec<Request> = history.iter().copied().collect();
+        let mut records = Vec::new();
+        for _ in 0..count {
+            let choice = self.random.below(100);
+            let request = if choice < 12 && !earlier.is_empty() {
+                self.random.pick(&earlier)
+            } else if choice < 65 {
+                self.likely_granted(&history)
+            } else {
+                self.some_request()
+            };
+            if self.would_grant(&history, &request) {
+                history.insert(request);
+            }
+            earlier.push(request);
+            records.push(request.as_record());
+        }
+        records
+    }
+
+    /// A record that is cut, or whose kind is unknown.
+    pub fn unreadable(&mut self) -> Vec<u8> {
+        if self.random.chance(50) {
+            let mut record = self.some_request().as_record();
+            record.truncate(self.random.below(record.len()));
+            record
+        } else {
+            let kind = self.random.pick(&[0, 1, 6, 15, 20, 21, 48, 128, 255]);
+            vec![kind, self.random.byte(), self.random.byte()]
+        }
+    }
+
+    /// A record for one judge or put: now and then unreadable, or with other
+    /// bytes behind it.
+    pub fn with_oddities(&mut self, mut record: Vec<u8>) -> Vec<u8> {
+        let choice = self.random.below(100);
+        if choice < 3 {
+            return self.unreadable();
+        }
+        if choice < 10 {
+            let count = self.random.between(1, 5);
+            record.extend((0..count).map(|_| self.random.byte()));
+        }
+        record
+    }
+}

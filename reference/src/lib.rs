@@ -1,0 +1,25 @@
+//! A second reckoning of the shared-office access monitor, written from the
+//! paper alone. It follows the sections "Rulebook", "History", "Levels",
+//! "Four rules" and "Requests and calls" word by word, with sets of requests
+//! and plain loops, so that a reader can check it by hand.
+
+pub mod answers;
+pub mod book;
+pub mod calls;
+pub mod generator;
+pub mod history;
+pub mod level;
+pub mod marked;
+pub mod numbers;
+pub mod places;
+pub mod play;
+pub mod random;
+pub mod request;
+pub mod rules;
+pub mod tables;
+
+pub use book::{load, rest, Loaded};
+pub use calls::{blank, judge, put, run, standing, Ran, Standing};
+pub use level::Level;
+pub use request::Request;
+pub use tables::{given, Tables};

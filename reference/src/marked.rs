@@ -1,0 +1,27 @@
+//! The marked book and requests of the section "The program `answers`".
+
+pub const BOOK: [u8; 54] = [
+    1, 15, // all four rules
+    2, 0, 0, 2, 1, 0, 2, 2, 1, // three firms, the first two are rivals
+    3, 0, 3, 32, 3, 1, 1, 16, // persons
+    4, 0, 0, 0, 3, 32, 4, 1, 1, 0, 3, 32, 4, 2, 2, 1, 1, 16, // folders
+    5, 0, 3, 0, 3, 0, 1, 0, 7, 0, // one role
+    6, 0, 1, 6, 1, 2, // pairs
+    0,
+];
+
+/// P1.
+pub const REQUESTS: [u8; 34] = [
+    17, 0, 0, 16, 0, 1, 16, 0, 2, 17, 0, 0, 18, 0, 1, 19, 1, 1, 2, 19, 1, 0, 2, 19, 1, 1, 2, 19, 1,
+    1, 2, 16, 5, 0,
+];
+
+/// The answers of P1.
+pub const ANSWERS: [u8; 10] = [0, 14, 0, 15, 0, 17, 0, 0, 17, 13];
+
+/// The marked book with other role bytes, as in P10.
+pub fn book_with_rights(rights: [u8; 8]) -> Vec<u8> {
+    let mut book = BOOK.to_vec();
+    book[39..47].copy_from_slice(&rights);
+    book
+}

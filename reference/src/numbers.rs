@@ -1,0 +1,40 @@
+//! The published numbers (the table in "Requests and calls").
+
+/// Granted, loaded, blanked, run: the call did what was asked.
+pub const GRANTED: u8 = 0;
+/// No byte left, or body cut short.
+pub const BOOK_CUT: u8 = 1;
+/// Kind above 6.
+pub const KIND_UNKNOWN: u8 = 2;
+/// Kind 1 not first, or again.
+pub const MASK_PLACE: u8 = 3;
+/// Value outside its range.
+pub const OUT_OF_RANGE: u8 = 4;
+/// Number or pair already declared.
+pub const DECLARED_BEFORE: u8 = 5;
+/// Firm not declared earlier.
+pub const FIRM_UNDECLARED: u8 = 6;
+/// q is 0: nothing enables "create".
+pub const CREATE_ENABLED: u8 = 7;
+/// Pairs form a circle, p to p included.
+pub const CIRCLE: u8 = 8;
+/// A step enables but is not enabled.
+pub const NEVER_ENABLED: u8 = 9;
+/// History not 18,944 bytes.
+pub const HISTORY_LENGTH: u8 = 10;
+/// Tables that no load gives.
+pub const TABLES_NOT_GIVEN: u8 = 11;
+/// Request kind unknown or record cut.
+pub const REQUEST_CUT: u8 = 12;
+/// Person or folder undeclared, step above 15.
+pub const UNDECLARED: u8 = 13;
+/// Refused by the wall.
+pub const WALL: u8 = 14;
+/// Refused by low-water.
+pub const LOW_WATER: u8 = 15;
+/// Refused by roles.
+pub const ROLES: u8 = 16;
+/// Refused by the pipeline.
+pub const PIPELINE: u8 = 17;
+/// Fewer answer bytes than answers due.
+pub const ANSWERS_SHORT: u8 = 18;

@@ -1,0 +1,160 @@
+//! The four rules (section "Four rules") and what they look at. Each rule is
+//! asked about a request whose parties are declared.
+
+use crate::history::{counted, History};
+use crate::level::Level;
+use crate::numbers::*;
+use crate::places::lies_in;
+use crate::request::Request;
+use crate::tables::{Tables, LOW_WATER_RULE, PIPELINE_RULE, ROLES_RULE, STEPS, WALL_RULE};
+use std::collections::BTreeSet;
+
+/// The checks 13 to 17, in this order; a rule not in force refuses nothing.
+pub fn judge_request(tables: &Tables, history: &History, request: &Request) -> u8 {
+    if !request.parties_declared(tables) || !request.step_in_range() {
+        return UNDECLARED;
+    }
+    if tables.in_force(WALL_RULE) && !wall_grants(tables, history, request) {
+        return WALL;
+    }
+    if tables.in_force(LOW_WATER_RULE) && !low_water_grants(tables, history, request) {
+        return LOW_WATER;
+    }
+    if tables.in_force(ROLES_RULE) && !roles_grant(tables, history, request) {
+        return ROLES;
+    }
+    if tables.in_force(PIPELINE_RULE) && !pipeline_grants(tables, history, request) {
+        return PIPELINE;
+    }
+    GRANTED
+}
+
+/// The folders that a person accessed.
+fn folders_accessed(tables: &Tables, history: &History, person: u8) -> BTreeSet<u8> {
+    let mut folders = BTreeSet::new();
+    for request in counted(tables, history) {
+        if request.person() == person {
+            if let Some(folder) = request.folder_accessed() {
+                folders.insert(folder);
+            }
+        }
+    }
+    folders
+}
+
+/// The firms that a person opened: those of the folders accessed.
+pub fn firms_opened(tables: &Tables, history: &History, person: u8) -> BTreeSet<u8> {
+    let mut firms = BTreeSet::new();
+    for folder in folders_accessed(tables, history, person) {
+        firms.insert(tables.folder(folder).firm);
+    }
+    firms
+}
+
+/// The meet of the first level and the levels of all folders read.
+pub fn current_level(tables: &Tables, history: &History, person: u8) -> Level {
+    let mut level = tables.persons[usize::from(person)].level;
+    for request in counted(tables, history) {
+        if let Request::Read {
+            person: reader,
+            folder,
+        } = *request
+        {
+            if reader == person {
+                level = level.meet(&tables.folder(folder).level);
+            }
+        }
+    }
+    level
+}
+
+/// The rights of all requests of a person. A start counts for the starter.
+pub fn rights_used(tables: &Tables, history: &History, person: u8) -> [bool; 64] {
+    let mut rights = [false; 64];
+    for request in counted(tables, history) {
+        if request.person() == person {
+            rights[request.right(tables)] = true;
+        }
+    }
+    rights
+}
+
+/// The steps done on a folder by anyone.
+fn steps_done(tables: &Tables, history: &History, on: u8) -> BTreeSet<usize> {
+    let mut done = BTreeSet::new();
+    for request in counted(tables, history) {
+        if let Request::Step { step, folder, .. } = *request {
+            if folder == on {
+                done.insert(usize::from(step));
+            }
+        }
+    }
+    done
+}
+
+/// Wall: granted if this person accessed some folder of the same firm, or if
+/// every folder the person accessed is in another conflict class.
+fn wall_grants(tables: &Tables, history: &History, request: &Request) -> bool {
+    let folder = match request.folder_accessed() {
+        Some(folder) => folder,
+        None => return true,
+    };
+    let firm = tables.folder(folder).firm;
+    let class = tables.class_of_folder(folder);
+    let accessed = folders_accessed(tables, history, request.person());
+    let some_of_same_firm = accessed
+        .iter()
+        .any(|other| tables.folder(*other).firm == firm);
+    let all_in_another_class = accessed
+        .iter()
+        .all(|other| tables.class_of_folder(*other) != class);
+    some_of_same_firm || all_in_another_class
+}
+
+/// Low-water: write needs the folder's level at most the person's, start
+/// needs the started person's level at most the starter's.
+fn low_water_grants(tables: &Tables, history: &History, request: &Request) -> bool {
+    match *request {
+        Request::Read { .. } | Request::Step { .. } => true,
+        Request::Write { person, folder } => tables
+            .folder(folder)
+            .level
+            .at_most(&current_level(tables, history, person)),
+        Request::Start { person, other } => {
+            current_level(tables, history, other).at_most(&current_level(tables, history, person))
+        }
+    }
+}
+
+/// Roles: the rights used with the new one lie in one declared role.
+fn roles_grant(tables: &Tables, history: &History, request: &Request) -> bool {
+    let mut rights = rights_used(tables, history, request.person());
+    rights[request.right(tables)] = true;
+    for role in &tables.roles {
+        if role.declared && lies_in(&rights, &role.rights) {
+            return true;
+        }
+    }
+    false
+}
+
+/// Pipeline: create needs no step done; another step needs a done step that
+/// enables it and that enables no step done.
+fn pipeline_grants(tables: &Tables, history: &History, request: &Request) -> bool {
+    let (wanted, folder) = match *request {
+        Request::Step { step, folder, .. } => (usize::from(step), folder),
+        _ => return true,
+    };
+    let done = steps_done(tables, history, folder);
+    if wanted == 0 {
+        return done.is_empty();
+    }
+    for before in 0..STEPS {
+        let is_last =
+            done.contains(&before) && !done.iter().any(|after| tables.enables[before][*after]);
+        if is_last && tables.enables[before][wanted] {
+            return true;
+        }
+    }
+    false
+}
