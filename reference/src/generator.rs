@@ -1,12 +1,15 @@
 //! Writes the files of calls described in FORMAT.md. A player follows along,
 //! so that requests can be chosen by what they would be answered.
 
+mod altered;
 mod books;
+mod lengths;
 mod requests;
 mod scenes;
 
+use crate::command::Command;
 use crate::history::HISTORY_BYTES;
-use crate::play::{Command, Player};
+use crate::play::Player;
 use crate::random::Random;
 use books::Plan;
 

@@ -6,6 +6,8 @@
 pub mod answers;
 pub mod book;
 pub mod calls;
+pub mod command;
+pub mod fields;
 pub mod generator;
 pub mod history;
 pub mod level;

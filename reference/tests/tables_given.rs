@@ -1,7 +1,7 @@
 //! Number 11: exactly the tables that no load gives.
 
+use reference::fields::set_field;
 use reference::marked::BOOK;
-use reference::play::set_field;
 use reference::{given, load, Tables};
 
 /// The marked book's tables with some fields changed.

@@ -1,0 +1,25 @@
+//! What the tests of requests and of runs share.
+
+use reference::marked::BOOK;
+use reference::{load, Ran, Tables};
+
+pub fn history() -> Vec<u8> {
+    vec![0; 18_944]
+}
+
+pub fn marked() -> Tables {
+    load(&BOOK).tables
+}
+
+/// The marked book's tables with another mask.
+pub fn with_mask(mask: u8) -> Tables {
+    let mut tables = marked();
+    tables.mask = mask;
+    tables
+}
+
+pub const NO_RUN: Ran = Ran {
+    number: 0,
+    granted: 0,
+    refused: 0,
+};
