@@ -1,0 +1,17 @@
+//! Links the static library that `rt staticlib exports` writes.
+
+use std::path::Path;
+
+fn main() {
+    let folder = Path::new(env!("CARGO_MANIFEST_DIR")).join("../target/staticlib");
+    let library = folder.join("libexports.a");
+    println!("cargo:rerun-if-changed={}", library.display());
+    if !library.exists() {
+        panic!(
+            "{} is missing: run `rt staticlib exports`",
+            library.display()
+        );
+    }
+    println!("cargo:rustc-link-search=native={}", folder.display());
+    println!("cargo:rustc-link-lib=static=exports");
+}

@@ -1,0 +1,110 @@
+//! The exported functions. A slice crosses as a pointer and a length.
+
+extern "C" {
+    fn kweldabe_blank(history: *mut u8, history_length: usize) -> u8;
+    fn kweldabe_load(book: *const u8, book_length: usize) -> u64;
+    fn kweldabe_rest_length(book: *const u8, book_length: usize) -> usize;
+    fn kweldabe_judge(
+        book: *const u8,
+        book_length: usize,
+        history: *const u8,
+        history_length: usize,
+        request: *const u8,
+        request_length: usize,
+    ) -> u8;
+    fn kweldabe_put(
+        book: *const u8,
+        book_length: usize,
+        history: *mut u8,
+        history_length: usize,
+        request: *const u8,
+        request_length: usize,
+    ) -> u8;
+    fn kweldabe_run(
+        book: *const u8,
+        book_length: usize,
+        history: *mut u8,
+        history_length: usize,
+        requests: *const u8,
+        requests_length: usize,
+        answers: *mut u8,
+        answers_length: usize,
+    ) -> u64;
+    fn kweldabe_standing(
+        book: *const u8,
+        book_length: usize,
+        history: *const u8,
+        history_length: usize,
+        person: u8,
+    ) -> u64;
+}
+
+// SAFETY, for every call below: each pointer and length are those of a live
+// slice, so the pointer is not null and the bytes are there. What is lent for
+// writing is lent by `&mut`, so nothing else reaches it during the call. The
+// functions keep no pointer, and they have no `requires`.
+
+pub fn blank(history: &mut [u8]) -> u8 {
+    unsafe { kweldabe_blank(history.as_mut_ptr(), history.len()) }
+}
+
+pub fn load(book: &[u8]) -> u64 {
+    unsafe { kweldabe_load(book.as_ptr(), book.len()) }
+}
+
+pub fn rest_length(book: &[u8]) -> usize {
+    unsafe { kweldabe_rest_length(book.as_ptr(), book.len()) }
+}
+
+pub fn judge(book: &[u8], history: &[u8], request: &[u8]) -> u8 {
+    unsafe {
+        kweldabe_judge(
+            book.as_ptr(),
+            book.len(),
+            history.as_ptr(),
+            history.len(),
+            request.as_ptr(),
+            request.len(),
+        )
+    }
+}
+
+pub fn put(book: &[u8], history: &mut [u8], request: &[u8]) -> u8 {
+    unsafe {
+        kweldabe_put(
+            book.as_ptr(),
+            book.len(),
+            history.as_mut_ptr(),
+            history.len(),
+            request.as_ptr(),
+            request.len(),
+        )
+    }
+}
+
+pub fn run(book: &[u8], history: &mut [u8], requests: &[u8], answers: &mut [u8]) -> u64 {
+    unsafe {
+        kweldabe_run(
+            book.as_ptr(),
+            book.len(),
+            history.as_mut_ptr(),
+            history.len(),
+            requests.as_ptr(),
+            requests.len(),
+            answers.as_mut_ptr(),
+            answers.len(),
+        )
+    }
+}
+
+pub fn standing(book: &[u8], history: &[u8], person: u8) -> u64 {
+    unsafe {
+        kweldabe_standing(
+            book.as_ptr(),
+            book.len(),
+            history.as_ptr(),
+            history.len(),
+            person,
+        )
+    }
+}

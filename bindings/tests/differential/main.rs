@@ -1,0 +1,82 @@
+//! Plays random calls on the proved monitor and on the independent reference,
+//! and compares every result and every lent byte.
+
+mod books;
+mod lent;
+mod monitor;
+mod requests;
+mod scene;
+
+use monitor::{Mutant, Mutation, Proved};
+use reference::marked;
+
+/// The calls that the main test compares at least.
+const CALLS: usize = 100_000;
+
+#[test]
+fn answers_agree() {
+    let mut calls = 0;
+    let mut seed = 0;
+    let mut seen = [0; 19];
+    while calls < CALLS {
+        calls += scene::play(&Proved, seed, &mut seen).unwrap_or_else(|found| panic!("{found}"));
+        seed += 1;
+    }
+    println!("{calls} calls in {seed} scenes agree; each number was given so often: {seen:?}");
+    let unseen: Vec<usize> = (0..19)
+        .filter(|number| *number != 11 && seen[*number] == 0)
+        .collect();
+    assert!(unseen.is_empty(), "no call gave {unseen:?}");
+}
+
+/// Runs of two thousand requests each.
+#[test]
+fn long_runs_agree() {
+    for seed in 0..10 {
+        scene::play_long(&Proved, seed, 2_000).unwrap_or_else(|found| panic!("{found}"));
+    }
+}
+
+/// A monitor that differs in one place only is found.
+#[test]
+fn each_mutation_is_found() {
+    for mutation in Mutation::ALL {
+        let mutant = Mutant { mutation };
+        let found = (0..500).find_map(|seed| scene::play(&mutant, seed, &mut [0; 19]).err());
+        match found {
+            Some(text) => println!("{mutation:?}: {text}"),
+            None => panic!("{mutation:?} was not found"),
+        }
+    }
+}
+
+#[test]
+fn the_marked_day_is_as_printed() {
+    let mut history = vec![255; kweldabe::HISTORY_BYTES];
+    let mut answers = [99; 12];
+    assert_eq!(kweldabe::blank(&mut history), 0);
+    let ran = kweldabe::run(&marked::BOOK, &mut history, &marked::REQUESTS, &mut answers);
+    assert_eq!(
+        ran,
+        Ok(kweldabe::Ran {
+            number: 0,
+            granted: 5,
+            refused: 5
+        })
+    );
+    assert_eq!(answers[..10], marked::ANSWERS);
+    assert_eq!(answers[10..], [99, 99]);
+}
+
+#[test]
+fn too_many_request_bytes_are_not_passed_on() {
+    let requests = vec![0; kweldabe::MOST_REQUEST_BYTES + 1];
+    let mut history = vec![0; kweldabe::HISTORY_BYTES];
+    let mut answers = [99];
+    let ran = kweldabe::run(&marked::BOOK, &mut history, &requests, &mut answers);
+    assert_eq!(ran, Err(kweldabe::TooLong));
+    let fewer = &requests[1..];
+    let ran = kweldabe::run(&marked::BOOK, &mut history, fewer, &mut answers);
+    assert_eq!(ran.map(|ran| (ran.number, ran.refused)), Ok((0, 1)));
+    assert_eq!(answers, [12]);
+}

@@ -1,0 +1,33 @@
+use mathlib.Core.Path.{_∙_}
+use Rattle.exports.proofs.Books.{judge-refused, judge-loaded, put-refused, put-loaded}
+use borrow.Author.Needs.{needs}
+use Rattle.exports.proofs.kweldabe_put.Statement.{statement}
+use Rattle.exports.proofs.kweldabe_put.Tie as tie
+use Rattle.exports.proofs.kweldabe_put.Reads as reads
+use Rattle.exports.proofs.kweldabe_put.Lts as lts
+use Rattle.monitor.proofs.load.Reads as load-reads
+use Rattle.monitor.proofs.put.Reads as put-reads
+
+load-requires : tie.Need-load-requires
+load-requires c κs = search needs
+
+returns : tie.Need-returns
+returns c = (
+  judge-refused (c .before .before .load .ensures) (c .if1 .taken) _ _,
+  put-refused (c .before .before .load .ensures) (c .if1 .taken) _ _,
+)
+
+put-requires : tie.Need-put-requires
+put-requires c κs = search needs
+
+same-length : tie.Need-same-length
+same-length c = search needs
+
+returns-2 : tie.Need-returns-2
+returns-2 c = (
+  c .before .before .put .ensures .0 ∙ judge-loaded (c .before .before .before .before .before .before .load .ensures) (c .before .before .before .before .if1 .left) _ _,
+  c .before .before .put .ensures .1 ∙ put-loaded (c .before .before .before .before .before .before .load .ensures) (c .before .before .before .before .if1 .left) _ _,
+)
+
+pub kweldabe-put-spec : {M : Type 1} → statement M
+kweldabe-put-spec = tie.close (tie.spec load-requires returns put-requires same-length returns-2)

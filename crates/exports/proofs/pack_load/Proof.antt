@@ -1,0 +1,23 @@
+use Rattle.exports.specs.Packed.{packedLoad}
+use borrow.Author.Needs.{needs}
+use Rattle.exports.proofs.pack_load.Statement.{statement}
+use Rattle.exports.proofs.pack_load.Tie as tie
+use Rattle.exports.proofs.pack_load.Reads as reads
+use Rattle.exports.proofs.pack_load.Lts as lts
+use Rattle.exports.proofs.wide.Reads as wide-reads
+
+wide-requires : tie.Need-wide-requires
+wide-requires c κs = search needs
+
+mul-result : tie.Need-mul-result
+mul-result c = search needs
+
+add-result : tie.Need-add-result
+add-result c = search needs
+
+returns : tie.Need-returns
+unfolding packedLoad
+returns c = search needs
+
+pub pack-load-spec : {M : Type 1} → statement M
+pack-load-spec = tie.close (tie.spec wide-requires mul-result add-result returns)

@@ -1,0 +1,50 @@
+use Rattle.exports.specs.Packed.{packedStanding}
+use borrow.Author.Needs.{needs}
+use Rattle.exports.proofs.pack_standing.Statement.{statement}
+use Rattle.exports.proofs.pack_standing.Tie as tie
+use Rattle.exports.proofs.pack_standing.Reads as reads
+use Rattle.exports.proofs.pack_standing.Lts as lts
+use Rattle.exports.proofs.wide.Reads as wide-reads
+use Rattle.exports.proofs.wide_level.Reads as wide-level-reads
+
+wide-requires : tie.Need-wide-requires
+wide-requires c κs = search needs
+
+wide-level-requires : tie.Need-wide-level-requires
+wide-level-requires c κs = search needs
+
+mul-result : tie.Need-mul-result
+mul-result c = search needs
+
+add-result : tie.Need-add-result
+add-result c = search needs
+
+mul-result-2 : tie.Need-mul-result-2
+mul-result-2 c = search needs
+
+add-result-2 : tie.Need-add-result-2
+add-result-2 c = search needs
+
+mul-result-3 : tie.Need-mul-result-3
+mul-result-3 c = search needs
+
+add-result-3 : tie.Need-add-result-3
+add-result-3 c = search needs
+
+returns : tie.Need-returns
+unfolding packedStanding
+returns c = search needs
+
+pub pack-standing-spec : {M : Type 1} → statement M
+pack-standing-spec =
+    tie.close
+    (tie.spec
+    wide-requires
+    wide-level-requires
+    mul-result
+    add-result
+    mul-result-2
+    add-result-2
+    mul-result-3
+    add-result-3
+    returns)

@@ -1,0 +1,57 @@
+-- What the exported calls return, packed in one number, and the lent bytes afterwards. A call that takes a book loads it first: the
+-- number of a refused book is the call's own, and nothing changes.
+use Prim.Native.Nat.{ℕ, _+_, _*_, _%_}
+use mathlib.Core.Path.{_≡_}
+use mathlib.Core.Bool.{cond}
+use mathlib.Core.List.{List}
+use lib.Dec.{eqb}
+use Rattle.policy.specs.declared.Loaded.{Loaded}
+use Rattle.policy.specs.declared.Ran.{Ran}
+use Rattle.policy.specs.declared.Standing.{Standing}
+use Rattle.policy.specs.Calls.{judgeNumber, putHistory, ran, runHistory, runAnswers, standing}
+use Rattle.monitor.specs.Refused.{noRun, noStanding}
+
+-- number in bits 0 to 7, offset modulo 2^56 in bits 8 to 63
+unfoldable pub packedLoad : ℕ → ℕ → ℕ
+packedLoad number offset = number + 256 * (offset % 72057594037927936)
+
+-- number in bits 0 to 7, the counts modulo 2^24 in bits 8 to 31 and 32 to 55
+unfoldable pub packedRun : ℕ → ℕ → ℕ → ℕ
+packedRun number granted refused = number + 256 * (granted % 16777216) + 4294967296 * (refused % 16777216)
+
+-- number in bits 0 to 7, level in bits 8 to 23, the counts modulo 2^8 in bits 24 to 31 and 32 to 39
+unfoldable pub packedStanding : ℕ → ℕ → ℕ → ℕ → ℕ
+packedStanding number level rights firms = number + 256 * level + 16777216 * (rights % 256) + 4294967296 * (firms % 256)
+
+unfoldable pub loadPacked : Loaded → ℕ
+loadPacked l = packedLoad (l .number) (l .offset)
+
+unfoldable pub judgeBy : Loaded → List ℕ → List ℕ → ℕ
+judgeBy l h request = cond (eqb (l .number) 0) (judgeNumber (l .tables) h request) (l .number)
+
+unfoldable pub putBy : Loaded → List ℕ → List ℕ → List ℕ
+putBy l h request = cond (eqb (l .number) 0) (putHistory (l .tables) h request) h
+
+unfoldable pub ranPacked : Ran → ℕ
+ranPacked r = packedRun (r .number) (r .granted) (r .refused)
+
+unfoldable pub ranBy : Loaded → List ℕ → List ℕ → List ℕ → Ran
+ranBy l h requests lent = cond (eqb (l .number) 0) (ran (l .tables) h requests lent) (noRun (l .number))
+
+unfoldable pub historyBy : Loaded → List ℕ → List ℕ → List ℕ → List ℕ
+historyBy l h requests lent = cond (eqb (l .number) 0) (runHistory (l .tables) h requests lent) h
+
+unfoldable pub answersBy : Loaded → List ℕ → List ℕ → List ℕ → List ℕ
+answersBy l h requests lent = cond (eqb (l .number) 0) (runAnswers (l .tables) h requests lent) lent
+
+-- what a run by a book returns, and the history and the answer bytes afterwards
+pub record RunBy (l : Loaded) (h requests lent : List ℕ) (r : ℕ) (left written : List ℕ) : Type 0 where
+  pub returned : r ≡ ranPacked (ranBy l h requests lent)
+  pub after : left ≡ historyBy l h requests lent
+  pub answers : written ≡ answersBy l h requests lent
+
+unfoldable pub standingPacked : Standing → ℕ
+standingPacked s = packedStanding (s .number) (s .level .0) (s .rights) (s .firms)
+
+unfoldable pub standingBy : Loaded → List ℕ → ℕ → Standing
+standingBy l h person = cond (eqb (l .number) 0) (standing (l .tables) h person) (noStanding (l .number))

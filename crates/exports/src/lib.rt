@@ -1,0 +1,151 @@
+// The calls of the access monitor for programs in C and Rust: byte slices and numbers only. Tables do not cross this boundary; a call
+// that needs them takes the bytes of the rulebook and loads it. A refused book is answered with its number, and then nothing changes.
+ghost use mathlib.Core.Path.{_≡_};
+ghost use Prim.Native.Nat.{_<_};
+ghost use lib.ListN.{length};
+ghost use Rattle.policy.specs.Rulebook.{loadBook};
+ghost use Rattle.policy.specs.Calls.{blankNumber, blankHistory, restOf};
+ghost use Rattle.exports.specs.Packed.{
+  packedLoad,
+  packedRun,
+  packedStanding,
+  loadPacked,
+  judgeBy,
+  putBy,
+  RunBy,
+  standingPacked,
+  standingBy,
+};
+
+// The number of a book that loads.
+const LOADED: u8 = 0;
+
+// A byte as a number of 64 bits.
+fn wide(x: u8) -> u64
+    ensures { λ r. ⌜ (r ≡ x) × (r < 256) ⌝ }
+{
+    x as u64
+}
+
+// A level as a number of 64 bits.
+fn wide_level(x: u16) -> u64
+    ensures { λ r. ⌜ (r ≡ x) × (r < 65536) ⌝ }
+{
+    x as u64
+}
+
+// Number in bits 0 to 7, offset modulo 2^56 in bits 8 to 63.
+fn pack_load(number: u8, offset: usize) -> u64
+    ensures { λ r. ⌜ r ≡ packedLoad number offset ⌝ }
+{
+    wide(number) + 256 * (offset as u64 % 72057594037927936)
+}
+
+// Number in bits 0 to 7, the counts modulo 2^24 in bits 8 to 31 and 32 to 55.
+fn pack_run(number: u8, granted: usize, refused: usize) -> u64
+    ensures { λ r. ⌜ r ≡ packedRun number granted refused ⌝ }
+{
+    wide(number) + 256 * (granted as u64 % 16777216) + 4294967296 * (refused as u64 % 16777216)
+}
+
+// Number in bits 0 to 7, level in bits 8 to 23, the counts modulo 2^8 in bits 24 to 31 and 32 to 39.
+fn pack_standing(number: u8, level: u16, rights: u32, firms: u32) -> u64
+    ensures { λ r. ⌜ r ≡ packedStanding number level rights firms ⌝ }
+{
+    wide(number)
+        + 256 * wide_level(level)
+        + 16777216 * (rights as u64 % 256)
+        + 4294967296 * (firms as u64 % 256)
+}
+
+// Makes a history blank: 0 or 10.
+#[no_mangle]
+pub extern "C" fn kweldabe_blank(history: &mut [u8]) -> u8
+    ensures { λ r. ⌜
+        (r ≡ blankNumber (now (history .entry))) × (now (history .exit) ≡ blankHistory (now (history .entry)))
+        ⌝ }
+{
+    monitor::blank(history)
+}
+
+// Loads a book: its number, and the offset of the end record or the refused one.
+#[no_mangle]
+pub extern "C" fn kweldabe_load(book: &[u8]) -> u64
+    ensures { λ r. ⌜ r ≡ loadPacked (loadBook (now (book .entry))) ⌝ }
+{
+    let loaded = monitor::load(book);
+    pack_load(loaded.number, loaded.offset)
+}
+
+// How many bytes follow the end record of a book; 0 for a refused one.
+#[no_mangle]
+pub extern "C" fn kweldabe_rest_length(book: &[u8]) -> usize
+    ensures { λ r. ⌜ r ≡ length (restOf (now (book .entry))) ⌝ }
+{
+    let rest = monitor::rest(book);
+    rest.len()
+}
+
+// The number of the request at the front of the bytes; nothing is recorded.
+#[no_mangle]
+pub extern "C" fn kweldabe_judge(book: &[u8], history: &[u8], request: &[u8]) -> u8
+    ensures { λ r. ⌜ r ≡ judgeBy (loadBook (now (book .entry))) (now (history .entry)) (now (request .entry)) ⌝ }
+{
+    let loaded = monitor::load(book);
+    if loaded.number != LOADED {
+        return loaded.number;
+    }
+    monitor::judge(loaded.tables, history, request)
+}
+
+// Judges the request at the front of the bytes, and records it if it is granted.
+#[no_mangle]
+pub extern "C" fn kweldabe_put(book: &[u8], history: &mut [u8], request: &[u8]) -> u8
+    ensures { λ r. ⌜
+        (r ≡ judgeBy (loadBook (now (book .entry))) (now (history .entry)) (now (request .entry)))
+        × (now (history .exit) ≡ putBy (loadBook (now (book .entry))) (now (history .entry)) (now (request .entry)))
+        ⌝ }
+{
+    let loaded = monitor::load(book);
+    if loaded.number != LOADED {
+        return loaded.number;
+    }
+    monitor::put(loaded.tables, history, request)
+}
+
+// Puts the requests of the bytes one after another, and writes one answer byte for each.
+#[no_mangle]
+pub extern "C" fn kweldabe_run(
+    book: &[u8],
+    history: &mut [u8],
+    requests: &[u8],
+    answers: &mut [u8],
+) -> u64
+    ensures { λ r. ⌜
+        RunBy (loadBook (now (book .entry))) (now (history .entry)) (now (requests .entry)) (now (answers .entry))
+        r (now (history .exit)) (now (answers .exit))
+        ⌝ }
+{
+    let loaded = monitor::load(book);
+    if loaded.number != LOADED {
+        return pack_run(loaded.number, 0, 0);
+    }
+    let ran = monitor::run(loaded.tables, history, requests, answers);
+    pack_run(ran.number, ran.granted, ran.refused)
+}
+
+// A person's current level, the number of rights used and the number of firms opened.
+#[no_mangle]
+pub extern "C" fn kweldabe_standing(book: &[u8], history: &[u8], person: u8) -> u64
+    ensures { λ r. ⌜
+        r ≡ standingPacked (standingBy (loadBook (now (book .entry))) (now (history .entry)) person)
+        ⌝ }
+{
+    let loaded = monitor::load(book);
+    if loaded.number != LOADED {
+        return pack_standing(loaded.number, 0, 0, 0);
+    }
+    let found = monitor::standing(loaded.tables, history, person);
+    let level = found.level;
+    pack_standing(found.number, level.0, found.rights, found.firms)
+}

@@ -1,0 +1,44 @@
+/* The marked day of document 01 (P1): loads the printed book, runs its ten requests from a blank history and prints the answers.
+ * Exits with 1 if they are not the printed ones. */
+#include "kweldabe.h"
+
+#include <stdio.h>
+#include <string.h>
+
+static const uint8_t book[] = {
+    1, 15,                                                            /* all four rules */
+    2, 0,  0,  2, 1, 0, 2, 2,  1,                                     /* firms */
+    3, 0,  3,  32, 3, 1, 1, 16,                                       /* persons */
+    4, 0,  0,  0, 3, 32, 4, 1, 1, 0, 3, 32, 4, 2, 2, 1, 1, 16,        /* folders */
+    5, 0,  3,  0, 3, 0, 1, 0,  7, 0,                                  /* a role */
+    6, 0,  1,  6, 1, 2,                                               /* pairs of steps */
+    0,
+};
+
+static const uint8_t requests[] = {
+    17, 0, 0, 16, 0, 1, 16, 0, 2, 17, 0, 0, 18, 0, 1, 19, 1, 1, 2, 19, 1, 0, 2, 19, 1, 1, 2, 19, 1, 1, 2, 16, 5, 0,
+};
+
+static const uint8_t expected[] = {0, 14, 0, 15, 0, 17, 0, 0, 17, 13};
+
+static uint8_t history[KWELDABE_HISTORY_BYTES];
+static uint8_t answers[sizeof expected];
+
+int main(void) {
+    const uint64_t loaded = kweldabe_load(book, sizeof book);
+    if ((loaded & 0xff) != 0) {
+        printf("book %u at %llu\n", (unsigned)(loaded & 0xff), (unsigned long long)(loaded >> 8));
+        return 1;
+    }
+    if (kweldabe_blank(history, sizeof history) != 0) {
+        return 1;
+    }
+    const uint64_t ran =
+        kweldabe_run(book, sizeof book, history, sizeof history, requests, sizeof requests, answers, sizeof answers);
+    for (size_t i = 0; i < sizeof answers; i++) {
+        printf("%zu %u\n", i + 1, (unsigned)answers[i]);
+    }
+    printf("granted %u refused %u\n", (unsigned)(ran >> 8 & 0xffffff), (unsigned)(ran >> 32 & 0xffffff));
+    const int same = memcmp(answers, expected, sizeof expected) == 0;
+    return same && ran == ((uint64_t)5 << 32 | 5 << 8) ? 0 : 1;
+}

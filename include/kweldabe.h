@@ -1,0 +1,54 @@
+/* The access monitor of document 01, for C. The functions are in libexports.a, which `rt staticlib exports` writes.
+ *
+ * Bytes are lent as a pointer and a length. A pointer is never null, also where the length is 0, and points to as many readable bytes
+ * as the length says. What is lent for writing (history in blank, put and run; answers) overlaps nothing else that the call is lent.
+ * Nobody else writes lent bytes during a call. Nothing is kept after it, and no function allocates or has state: threads may call at
+ * once on different bytes.
+ *
+ * A call that needs the tables of a rulebook takes the bytes of the book and loads it. A refused book is answered with its number,
+ * 1 to 9. A call whose own number is not 0 changes no byte. */
+#ifndef KWELDABE_H
+#define KWELDABE_H
+
+#include <stddef.h>
+#include <stdint.h>
+
+#ifdef __cplusplus
+extern "C" {
+#endif
+
+/* The bytes of a history. */
+#define KWELDABE_HISTORY_BYTES 18944
+
+/* Makes a history all zero: 0 or 10. */
+uint8_t kweldabe_blank(uint8_t *history, size_t history_length);
+
+/* Loads a book: the number in bits 0 to 7; in bits 8 to 63 the offset of the end record or of the refused one. */
+uint64_t kweldabe_load(const uint8_t *book, size_t book_length);
+
+/* How many bytes follow the end record; 0 for a refused book. */
+size_t kweldabe_rest_length(const uint8_t *book, size_t book_length);
+
+/* The number of the request at the front of the bytes; nothing is recorded. */
+uint8_t kweldabe_judge(const uint8_t *book, size_t book_length, const uint8_t *history, size_t history_length,
+                       const uint8_t *request, size_t request_length);
+
+/* The same, and the request is recorded in the history if the number is 0. */
+uint8_t kweldabe_put(const uint8_t *book, size_t book_length, uint8_t *history, size_t history_length,
+                     const uint8_t *request, size_t request_length);
+
+/* Puts one request after another and writes one answer byte for each. The number is in bits 0 to 7, the granted requests in bits 8 to
+ * 31 and the refused ones in bits 32 to 55, both modulo 2^24: with fewer than 2^24 request bytes they are exact. */
+uint64_t kweldabe_run(const uint8_t *book, size_t book_length, uint8_t *history, size_t history_length,
+                      const uint8_t *requests, size_t requests_length, uint8_t *answers, size_t answers_length);
+
+/* A person's standing: the number in bits 0 to 7, the current level in bits 8 to 23, the number of rights used in bits 24 to 31 and
+ * that of firms opened in bits 32 to 39. */
+uint64_t kweldabe_standing(const uint8_t *book, size_t book_length, const uint8_t *history, size_t history_length,
+                           uint8_t person);
+
+#ifdef __cplusplus
+}
+#endif
+
+#endif
