@@ -1,3 +1,4 @@
+-- `main` stays inside its buffers and ends: at most as many bytes are read as the input buffer has.
 use lib.ListN.{length-take}
 use native.Mathlib.Omega.{arith}
 use borrow.Author.Needs.{needs}

@@ -1,3 +1,4 @@
+-- `print_lines` ends: each turn prints at least one line where a line is left, since a line fits the empty buffer.
 use lib.ListN.{length-take}
 use Prim.Native.Nat.{_-_}
 use native.Mathlib.Omega.{arith}

@@ -1,3 +1,4 @@
+-- `play_all` ends and reads inside the file of calls: each command takes at least one byte, and a place is never past the length.
 use borrow.Author.Needs.{needs}
 use Prim.Native.Nat.{_-_}
 use mathlib.Core.Path.{_≡_}

@@ -1,3 +1,4 @@
+-- `play_fill` writes inside the answer buffer, and ends at its length.
 use borrow.Author.Needs.{needs}
 use Prim.Native.Nat.{_-_}
 use mathlib.Core.Path.{_≡_}

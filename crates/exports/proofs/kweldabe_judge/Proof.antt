@@ -1,3 +1,4 @@
+-- `kweldabe_judge` is `judgeBy` of what loading returned: a refused book's number, or what `monitor::judge` says by the loaded tables.
 use mathlib.Core.Path.{_∙_}
 use Rattle.exports.proofs.Books.{judge-refused, judge-loaded}
 use borrow.Author.Needs.{needs}

@@ -1,3 +1,4 @@
+-- `kweldabe_load` packs what `monitor::load` returns, which is `loadBook`.
 use mathlib.Core.Path.{_∙_}
 use Rattle.exports.proofs.Books.{load-packed}
 use borrow.Author.Needs.{needs}

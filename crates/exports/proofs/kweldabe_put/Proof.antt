@@ -1,3 +1,5 @@
+-- `kweldabe_put` is `judgeBy` and leaves `putBy` of what loading returned: nothing changes for a refused book, and otherwise
+-- `monitor::put` says both.
 use mathlib.Core.Path.{_∙_}
 use Rattle.exports.proofs.Books.{judge-refused, judge-loaded, put-refused, put-loaded}
 use borrow.Author.Needs.{needs}
@@ -24,10 +26,14 @@ same-length : tie.Need-same-length
 same-length c = search needs
 
 returns-2 : tie.Need-returns-2
-returns-2 c = (
-  c .before .before .put .ensures .0 ∙ judge-loaded (c .before .before .before .before .before .before .load .ensures) (c .before .before .before .before .if1 .left) _ _,
-  c .before .before .put .ensures .1 ∙ put-loaded (c .before .before .before .before .before .before .load .ensures) (c .before .before .before .before .if1 .left) _ _,
-)
+returns-2 c =
+    let at-put = c .before .before in
+    let at-if1 = at-put .before .before in
+    let same = at-if1 .before .before .load .ensures in
+    (
+      at-put .put .ensures .0 ∙ judge-loaded same (at-if1 .if1 .left) _ _,
+      at-put .put .ensures .1 ∙ put-loaded same (at-if1 .if1 .left) _ _,
+    )
 
 pub kweldabe-put-spec : {M : Type 1} → statement M
 kweldabe-put-spec = tie.close (tie.spec load-requires returns put-requires same-length returns-2)

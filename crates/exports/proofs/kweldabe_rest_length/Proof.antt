@@ -1,3 +1,4 @@
+-- `kweldabe_rest_length` is the length of what `monitor::rest` returns, which is `restOf`.
 use mathlib.Core.Path.{ap}
 use lib.ListN.{length}
 use borrow.Author.Needs.{needs}

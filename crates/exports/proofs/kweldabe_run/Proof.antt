@@ -1,3 +1,5 @@
+-- `kweldabe_run` meets `RunBy` of what loading returned: nothing changes for a refused book, and otherwise `monitor::run` says all
+-- three.
 use Rattle.exports.proofs.Books.{run-refused, run-loaded}
 use borrow.Author.Needs.{needs}
 use Rattle.exports.proofs.kweldabe_run.Statement.{statement}
@@ -31,8 +33,10 @@ same-length-2 c = search needs
 
 returns-2 : tie.Need-returns-2
 returns-2 c =
-    let at-if1 = c .before .before .before .before .before .before .before .before in
-    run-loaded (at-if1 .before .before .load .ensures) (at-if1 .if1 .left) _ _ _ _ _ _ _ (c .before .before .before .before .before .run .ensures) (c .pack-run2 .ensures)
+    let at-run = c .before .before .before .before .before in
+    let at-if1 = at-run .before .before .before in
+    let same = at-if1 .before .before .load .ensures in
+    run-loaded same (at-if1 .if1 .left) _ _ _ _ _ _ _ (at-run .run .ensures) (c .pack-run2 .ensures)
 
 pub kweldabe-run-spec : {M : Type 1} → statement M
 kweldabe-run-spec =

@@ -1,3 +1,5 @@
+-- `kweldabe_standing` packs `standingBy` of what loading returned: zeros for a refused book, and otherwise what `monitor::standing`
+-- says.
 use mathlib.Core.Path.{_∙_}
 use Rattle.exports.proofs.Books.{standing-refused, standing-loaded}
 use borrow.Author.Needs.{needs}
@@ -25,7 +27,11 @@ pack-standing-requires-2 : tie.Need-pack-standing-requires-2
 pack-standing-requires-2 c κs = search needs
 
 returns-2 : tie.Need-returns-2
-returns-2 c = c .pack-standing2 .ensures ∙ standing-loaded (c .before .before .before .before .before .load .ensures) (c .before .before .before .if1 .left) _ _ _ (c .before .before .standing .ensures)
+returns-2 c =
+    let at-standing = c .before .before in
+    let at-if1 = at-standing .before in
+    let same = at-if1 .before .before .load .ensures in
+    c .pack-standing2 .ensures ∙ standing-loaded same (at-if1 .if1 .left) _ _ _ (at-standing .standing .ensures)
 
 pub kweldabe-standing-spec : {M : Type 1} → statement M
 kweldabe-standing-spec =

@@ -1,3 +1,4 @@
+-- `pack_load` is `packedLoad`, and no sum passes 64 bits: a number is below 2^8, and an offset is taken modulo 2^56.
 use Rattle.exports.specs.Packed.{packedLoad}
 use borrow.Author.Needs.{needs}
 use Rattle.exports.proofs.pack_load.Statement.{statement}

@@ -1,3 +1,4 @@
+-- `pack_run` is `packedRun`, and no sum passes 64 bits: a number is below 2^8, and the counts are taken modulo 2^24.
 use Rattle.exports.specs.Packed.{packedRun}
 use borrow.Author.Needs.{needs}
 use Rattle.exports.proofs.pack_run.Statement.{statement}

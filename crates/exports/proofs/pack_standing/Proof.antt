@@ -1,3 +1,4 @@
+-- `pack_standing` is `packedStanding`, and no sum passes 64 bits: each part is below the place of the next.
 use Rattle.exports.specs.Packed.{packedStanding}
 use borrow.Author.Needs.{needs}
 use Rattle.exports.proofs.pack_standing.Statement.{statement}

@@ -1,3 +1,4 @@
+-- `are_declared` is the test of both entries: numbers out of range are undeclared, and others are read inside the arrays.
 use borrow.Author.Tests.{lt-ltb, le-ltb}
 use Rattle.policy.specs.Tables.{personDeclared, folderDeclared}
 use borrow.Author.Needs.{needs}

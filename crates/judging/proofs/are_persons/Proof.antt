@@ -1,3 +1,4 @@
+-- `are_persons` is the test of both entries: numbers out of range are undeclared, and others are read inside the array.
 use borrow.Author.Tests.{lt-ltb, le-ltb}
 use Rattle.policy.specs.Tables.{personDeclared}
 use borrow.Author.Needs.{needs}

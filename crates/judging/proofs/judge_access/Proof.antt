@@ -1,3 +1,5 @@
+-- `judge_access` is the ladder of wall, low-water and roles: what is gathered is what these rules ask of the set, and a rule not in
+-- force is not asked.
 use native.Mathlib.Omega.{arith}
 use mathlib.Core.Path.{sym, _∙_}
 use mathlib.Core.Logic.{inl, inr}

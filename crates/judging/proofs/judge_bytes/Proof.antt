@@ -1,3 +1,4 @@
+-- `judge_bytes` judges what `request::parse` reads, which is the definition's request at the front of the bytes.
 use mathlib.Core.Path.{ap, _∙_}
 use mathlib.Core.Option.{Option}
 use denote.Ref.{now}

@@ -1,3 +1,4 @@
+-- `judge_parsed` is the definition's number, kind by kind; no request is 12.
 use mathlib.Core.Path.{_∙_}
 use Rattle.policy.specs.Checks.{ladder}
 use Rattle.policy.specs.Calls.{requestChecks}

@@ -1,3 +1,4 @@
+-- `judge_past` is the first of wall, low-water and roles that refuses, by the masks and the level of what the person did.
 use native.Mathlib.Omega.{arith}
 use mathlib.Core.Path.{sym, _∙_}
 use mathlib.Core.Logic.{inl, inr, ⊎-elim}

@@ -1,3 +1,4 @@
+-- `judge_start` is 13 for undeclared parties, and otherwise low-water of both current levels, then roles with right 32.
 use mathlib.Core.Path.{sym, _∙_}
 use mathlib.Core.Logic.{inl, inr}
 use borrow.Author.Tests.{not-true, not-false}

@@ -1,3 +1,4 @@
+-- `judge_start_past` is the first of low-water and roles that refuses a start, by what the starter did.
 use mathlib.Core.Path.{sym, _∙_}
 use mathlib.Core.Logic.{inl, inr, ⊎-elim}
 use borrow.Author.Tests.{not-true, not-false}

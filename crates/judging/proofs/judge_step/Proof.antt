@@ -1,3 +1,4 @@
+-- `judge_step` is 13 for undeclared parties or a step above 15, then the access with the step's right, then the pipeline.
 use native.Mathlib.Omega.{arith}
 use denote.Ref.{now}
 use mathlib.Core.Path.{_≡_, sym, _∙_}

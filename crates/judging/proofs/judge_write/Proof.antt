@@ -1,3 +1,4 @@
+-- `judge_write` is 13 for undeclared parties, and otherwise the access with the right of a write to the folder's kind.
 use native.Mathlib.Omega.{arith}
 use mathlib.Core.Path.{sym, ap, _∙_}
 use Prim.Native.Nat.{ℕ, _+_}

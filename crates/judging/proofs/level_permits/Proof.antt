@@ -1,3 +1,4 @@
+-- `level_permits` is low-water's test of two levels for a write, and true for anything else.
 use borrow.Author.Needs.{needs}
 use Rattle.judging.proofs.level_permits.Statement.{statement}
 use Rattle.judging.proofs.level_permits.Tie as tie

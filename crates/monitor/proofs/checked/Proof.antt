@@ -1,3 +1,4 @@
+-- `checked` is 10 for a history of another length, then 11 for tables that no load gives, and 0 where both pass.
 use mathlib.Core.Path.{sym, _∙_}
 use Rattle.monitor.proofs.CallLaws.{wrong-length, not-given, both-pass}
 use borrow.Author.Needs.{needs}

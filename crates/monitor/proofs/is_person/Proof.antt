@@ -1,3 +1,4 @@
+-- `is_person` is the test of the person's entry: numbers from 64 on are undeclared, and others are read inside the array.
 use borrow.Author.Tests.{lt-ltb, le-ltb}
 use Rattle.policy.specs.Tables.{personDeclared}
 use borrow.Author.Needs.{needs}

@@ -1,3 +1,4 @@
+-- `judge` is `judgeNumber`: what `checked` refuses gets its number, and otherwise `judging` is asked of ready tables and history.
 use mathlib.Core.Path.{sym, _∙_}
 use Rattle.monitor.proofs.CallLaws.{passed-ready, judge-refused, judge-ready}
 use borrow.Author.Needs.{needs}

@@ -1,3 +1,4 @@
+-- `no_run` is the definition's refused run: the number, and counts 0 and 0.
 use mathlib.Core.Path.{refl}
 use Rattle.monitor.specs.Refused.{noRun}
 use Rattle.monitor.proofs.no_run.Statement.{statement}

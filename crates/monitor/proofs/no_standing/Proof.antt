@@ -1,3 +1,4 @@
+-- `no_standing` is the definition's refused standing: the number, and zeros.
 use mathlib.Core.Path.{refl}
 use Rattle.monitor.specs.Refused.{noStanding}
 use Rattle.monitor.proofs.no_standing.Statement.{statement}

@@ -1,3 +1,4 @@
+-- `put` is `judgeNumber` and leaves `putHistory`: nothing changes where `checked` refuses, and otherwise `running` says both.
 use mathlib.Core.Path.{sym, _∙_}
 use Rattle.monitor.proofs.CallLaws.{passed-ready, judge-refused, judge-ready, put-refused, put-ready}
 use borrow.Author.Needs.{needs}

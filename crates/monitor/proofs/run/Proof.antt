@@ -1,3 +1,5 @@
+-- `run` returns `ran` and leaves `runHistory` and `runAnswers`: nothing changes where `checked` refuses or answer bytes are too few, and
+-- otherwise `running` says all three.
 use mathlib.Core.Path.{sym, _∙_}
 use Rattle.monitor.proofs.CallLaws.{passed-ready, run-stopped, run-without-room, run-done}
 use borrow.Author.Needs.{needs}

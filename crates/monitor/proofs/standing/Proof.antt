@@ -1,3 +1,4 @@
+-- `standing` is the definition's: what `checked` refuses, then 13, then the level and the ones of the two masks that `past` gathers.
 use denote.Ref.{now}
 use mathlib.Core.Path.{sym, ap, _∙_}
 use borrow.Author.Tests.{not-true, not-false}

@@ -1,3 +1,4 @@
+-- `declared_persons` is the mask of declared persons: before each turn it has the declared persons below the number reached.
 use Prim.Native.Nat.{ℕ, _≤_, _<_, _-_, _%_}
 use native.Mathlib.Omega.{arith}
 use mathlib.Core.Path.{_≡_, refl, sym, ap, _∙_}

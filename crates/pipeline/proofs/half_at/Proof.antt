@@ -1,3 +1,4 @@
+-- `half_at` is the number of four bytes, lowest first: the shifted bytes share no bit, so "or" is their sum.
 use borrow.Author.Needs.{needs}
 use native.Mathlib.Omega.{arith}
 use Rattle.pipeline.specs.Steps.{halfAt}

@@ -1,3 +1,4 @@
+-- `is_led_to` holds where some step leads to q: before each turn no step below the number reached does.
 use Prim.Native.Nat.{ℕ, _≤_, _-_}
 use native.Mathlib.Omega.{arith}
 use mathlib.Core.Path.{_≡_, sym, ap, _∙_}

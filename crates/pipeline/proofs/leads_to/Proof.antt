@@ -1,3 +1,4 @@
+-- `leads_to` is the three tests of one step: done, enables q, and enables no step done.
 use borrow.Author.Tests.{not-true, not-false}
 use borrow.Author.Needs.{needs}
 use Rattle.pipeline.specs.Steps.{leads}

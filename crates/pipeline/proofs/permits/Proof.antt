@@ -1,3 +1,4 @@
+-- `permits` is the step rule of the set: the mask of steps done has exactly the steps that a declared person did on the folder.
 use mathlib.Core.Path.{_∙_}
 use Rattle.policy.proofs.Requests.{folder-below}
 use Rattle.pipeline.proofs.StepLaws.{done-set, led-to, none-done}

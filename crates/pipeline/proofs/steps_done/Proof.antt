@@ -1,3 +1,5 @@
+-- `steps_done` is the mask of steps that some of the persons did: before each turn it has those below the number reached, each by one
+-- word of the history.
 use Prim.Native.Nat.{ℕ, _≤_, _<_, _-_, _%_}
 use native.Mathlib.Omega.{arith}
 use mathlib.Core.Path.{_≡_, refl, sym, ap, _∙_}

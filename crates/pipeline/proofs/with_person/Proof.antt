@@ -1,3 +1,4 @@
+-- `with_person` sets the person's bit exactly where the entry is declared.
 use borrow.Author.Needs.{needs}
 use Rattle.pipeline.proofs.with_person.Statement.{statement}
 use Rattle.pipeline.proofs.with_person.Tie as tie

@@ -1,3 +1,4 @@
+-- `word_at` is the number of eight bytes, lowest first: two halves that share no bit.
 use borrow.Author.Needs.{needs}
 use Rattle.pipeline.specs.Steps.{wordAt}
 use Rattle.pipeline.proofs.word_at.Statement.{statement}

@@ -1,3 +1,4 @@
+-- `index` is the definition's index of the request's bit, kind by kind; no sum passes the machine's numbers, since each field is a byte.
 use Rattle.policy.specs.Request.{index}
 use borrow.Author.Needs.{needs}
 use Rattle.request.proofs.index.Statement.{statement}

@@ -1,3 +1,4 @@
+-- `parse` is the definition's request at the front of the bytes: the kind gives the length, and a byte is read only where it is there.
 use native.Mathlib.Omega.{arith}
 use mathlib.Core.Path.{sym}
 use Rattle.request.proofs.RequestLaws.{too-short, is-read, is-write, is-start, is-cut-step, is-step, is-unknown}

@@ -1,3 +1,4 @@
+-- `covers_all` is the test that a declared role has every right of the mask: a mask is inside another where "and" leaves it as it is.
 use Rattle.rules.specs.Sets.{covers}
 use Rattle.rules.proofs.covers_all.Statement.{statement}
 use Rattle.rules.proofs.covers_all.Tie as tie

@@ -1,3 +1,4 @@
+-- `is_rival` is the test of one firm: its bit is in the mask, and its class is the class asked.
 use borrow.Author.Tests.{eq-eqb, ne-eqb}
 use Rattle.rules.specs.Sets.{isRival}
 use borrow.Author.Needs.{needs}

@@ -1,3 +1,4 @@
+-- `roles_permit` holds where some role covers the rights: before each turn no role below the number reached does.
 use Prim.Native.Nat.{_≤_, _-_}
 use native.Mathlib.Omega.{arith}
 use mathlib.Core.Path.{_≡_, sym, _∙_}

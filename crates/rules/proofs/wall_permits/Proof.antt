@@ -1,3 +1,5 @@
+-- `wall_permits` is the wall of the mask of firms: the own firm is free, and before each turn no firm below the number reached is a
+-- rival.
 use Prim.Native.Nat.{_≤_, _-_}
 use native.Mathlib.Omega.{arith}
 use mathlib.Core.Path.{_≡_, sym, _∙_}

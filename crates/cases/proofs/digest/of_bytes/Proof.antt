@@ -1,3 +1,4 @@
+-- `of_bytes` reads each byte inside the slice and ends: the place goes up by one to the length.
 use borrow.Author.Needs.{needs}
 use Prim.Native.Nat.{_-_}
 use lib.ListN.{length}

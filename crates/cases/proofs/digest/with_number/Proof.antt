@@ -1,3 +1,4 @@
+-- `with_number` ends: the number of the byte goes up by one to 8, and a byte of the number is below 256.
 use borrow.Author.Needs.{needs}
 use Prim.Native.Nat.{_≤_, _-_}
 use Rattle.cases.proofs.digest.with_number.Statement.{statement}

@@ -1,3 +1,4 @@
+-- `put_bytes` reads inside the text, and ends at its length.
 use borrow.Author.Needs.{needs}
 use Prim.Native.Nat.{_-_}
 use mathlib.Core.Path.{_≡_}

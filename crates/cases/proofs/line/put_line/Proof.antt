@@ -1,3 +1,4 @@
+-- `put_line` reads inside the numbers, and ends at their count.
 use borrow.Author.Needs.{needs}
 use Prim.Native.Nat.{_-_}
 use mathlib.Core.Path.{_≡_}

@@ -1,3 +1,4 @@
+-- `front` is at most the length of the slice: the lesser of two numbers is at most each.
 use native.Mathlib.Omega.{arith}
 use borrow.Author.Needs.{needs}
 use Rattle.io.proofs.Counting.{counts}

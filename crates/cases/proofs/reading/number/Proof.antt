@@ -1,3 +1,4 @@
+-- `number` ends: eight bytes are read from the last down to the first.
 use borrow.Author.Needs.{needs}
 use Prim.Native.Nat.{_≤_}
 use Rattle.cases.proofs.reading.number.Statement.{statement}
