@@ -1,4 +1,4 @@
--- `answer` stays inside its buffers and ends. The text of a refused book is at most 32 bytes, and the printing buffer is longer.
+-- `answer` stays inside its buffers and ends: the text of a refused book is a front of the printing buffer.
 use lib.ListN.{length-take}
 use native.Mathlib.Omega.{arith}
 use borrow.Author.Needs.{needs}

@@ -1,5 +1,5 @@
--- `print_answers` meets what `monitor::run` and the printing functions need: a run's counts are together the answers due, so they are
--- below the number of request bytes and the totals fit the buffer.
+-- `print_answers` stays inside its buffers and ends: the counts of a run are together at most the answer bytes lent to it, so the lines
+-- are made from a front of them.
 use Prim.Native.Nat.{_+_}
 use native.Mathlib.Omega.{arith}
 use lib.ListN.{length-take}

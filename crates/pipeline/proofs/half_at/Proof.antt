@@ -1,4 +1,4 @@
--- `half_at` is the number of four bytes, lowest first: the shifted bytes share no bit, so "or" is their sum.
+-- `half_at` is the number of four bytes, lowest first, and below 2^32: each byte is below 256, so no sum passes 64 bits.
 use borrow.Author.Needs.{needs}
 use native.Mathlib.Omega.{arith}
 use Rattle.pipeline.specs.Steps.{halfAt}

@@ -1,4 +1,4 @@
--- `with_step` sets the step's bit exactly where the word shares a person with the set.
+-- `with_step` sets the step's bit exactly where the set of persons who did it is not empty.
 use borrow.Author.Tests.{eq-eqb, ne-eqb}
 use borrow.Author.Needs.{needs}
 use Rattle.pipeline.proofs.with_step.Statement.{statement}

@@ -1,4 +1,4 @@
--- `word_at` is the number of eight bytes, lowest first: two halves that share no bit.
+-- `word_at` is the number of eight bytes, lowest first: each half is below 2^32, so the sum does not pass 64 bits.
 use borrow.Author.Needs.{needs}
 use Rattle.pipeline.specs.Steps.{wordAt}
 use Rattle.pipeline.proofs.word_at.Statement.{statement}
