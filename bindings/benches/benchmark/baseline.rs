@@ -1,7 +1,8 @@
-//! The algorithm of the proved monitor in plain Rust: the same tables, one
-//! pass over a person's folders, sets as masks. Tables are lent by reference.
+//! The algorithm of the proved monitor in plain Rust: one pass over a person's
+//! folders, sets as masks, reads and writes by words, steps by doubling, the set
+//! of the declared persons made once a run. Tables are lent by reference.
 
-use crate::tables::{given, load, Tables};
+use crate::tables::{given, load, Folder, Tables};
 
 pub const HISTORY_BYTES: usize = 18_944;
 
@@ -23,16 +24,23 @@ struct Past {
     firms: u64,
 }
 
-/// The steps that a person applied to a folder: bits eight bytes apart.
+/// The steps that a person applied to a folder: bits eight bytes apart, from
+/// the last step down, each turn doubling the sum.
 fn steps_of(h: &[u8], s: usize, o: usize) -> u16 {
-    let first = 2560 + 128 * o + s / 8;
-    let mut steps = 0;
+    let last = 2680 + 128 * o + s / 8;
+    let one = 1 << (s % 8);
+    let mut sum: u32 = 0;
     for p in 0..16 {
-        if h[first + 8 * p] >> (s % 8) & 1 == 1 {
-            steps |= 1 << p;
-        }
+        sum = 2 * sum + u32::from(h[last - 8 * p] & one);
     }
-    steps
+    (sum >> (s % 8)) as u16
+}
+
+/// The 64 bits of the eight bytes from a place on.
+fn word(h: &[u8], at: usize) -> u64 {
+    let mut bytes = [0; 8];
+    bytes.copy_from_slice(&h[at..at + 8]);
+    u64::from_le_bytes(bytes)
 }
 
 fn has_started(t: &Tables, h: &[u8], s: usize) -> bool {
@@ -42,48 +50,59 @@ fn has_started(t: &Tables, h: &[u8], s: usize) -> bool {
     (0..64).any(|u| t.persons[u].declared && bit(h, 16384 + 64 * s + u))
 }
 
+/// Adds what a person did on 64 folders, whose reads and writes are two words.
+fn past_over(folders: &[Folder], h: &[u8], s: usize, first: usize, past: &mut Past) {
+    let read = word(h, 16 * s + first / 8);
+    let wrote = word(h, 1024 + 16 * s + first / 8);
+    for (i, folder) in folders.iter().enumerate() {
+        if !folder.declared {
+            continue;
+        }
+        let steps = steps_of(h, s, first + i);
+        let (seen, changed) = (read >> i & 1 == 1, wrote >> i & 1 == 1);
+        if !seen && !changed && steps == 0 {
+            continue;
+        }
+        past.rights |= u64::from(steps) << 48;
+        if seen {
+            past.level = meet(past.level, folder.level);
+            past.rights |= 1 << folder.kind;
+        }
+        if changed {
+            past.rights |= 1 << (16 + folder.kind);
+        }
+        past.firms |= 1 << folder.firm;
+    }
+}
+
 fn past_of(t: &Tables, h: &[u8], s: usize) -> Past {
     let mut past = Past {
         level: t.persons[s].level,
         rights: 0,
         firms: 0,
     };
-    for (o, folder) in t.folders.iter().enumerate() {
-        if !folder.declared {
-            continue;
-        }
-        let read = bit(h, 128 * s + o);
-        let wrote = bit(h, 8192 + 128 * s + o);
-        let mut rights = u64::from(steps_of(h, s, o)) << 48;
-        if read {
-            rights |= 1 << folder.kind;
-        }
-        if wrote {
-            rights |= 1 << (16 + folder.kind);
-        }
-        if rights == 0 {
-            continue;
-        }
-        if read {
-            past.level = meet(past.level, folder.level);
-        }
-        past.rights |= rights;
-        past.firms |= 1 << folder.firm;
-    }
+    past_over(&t.folders[..64], h, s, 0, &mut past);
+    past_over(&t.folders[64..], h, s, 64, &mut past);
     if has_started(t, h, s) {
         past.rights |= 1 << 32;
     }
     past
 }
 
-fn current_level(t: &Tables, h: &[u8], s: usize) -> u16 {
-    let mut level = t.persons[s].level;
-    for (o, folder) in t.folders.iter().enumerate() {
-        if folder.declared && bit(h, 128 * s + o) {
+/// The level after 64 folders, of which those in the set were read.
+fn level_over(folders: &[Folder], read: u64, before: u16) -> u16 {
+    let mut level = before;
+    for (i, folder) in folders.iter().enumerate() {
+        if read >> i & 1 == 1 && folder.declared {
             level = meet(level, folder.level);
         }
     }
     level
+}
+
+fn current_level(t: &Tables, h: &[u8], s: usize) -> u16 {
+    let low = level_over(&t.folders[..64], word(h, 16 * s), t.persons[s].level);
+    level_over(&t.folders[64..], word(h, 16 * s + 8), low)
 }
 
 fn wall_permits(t: &Tables, firms: u64, o: usize) -> bool {
@@ -102,19 +121,21 @@ fn roles_permit(t: &Tables, used: u64, right: usize) -> bool {
         .any(|role| role.declared && rights & role.rights == rights)
 }
 
-fn pipeline_permits(t: &Tables, h: &[u8], q: usize, o: usize) -> bool {
-    let mut persons: u64 = 0;
+/// The set of the declared persons, made once a run.
+fn declared_persons(t: &Tables) -> u64 {
+    let mut persons = 0;
     for (s, person) in t.persons.iter().enumerate() {
         if person.declared {
             persons |= 1 << s;
         }
     }
+    persons
+}
+
+fn pipeline_permits(t: &Tables, persons: u64, h: &[u8], q: usize, o: usize) -> bool {
     let mut done: u16 = 0;
     for p in 0..16 {
-        let at = 2560 + 128 * o + 8 * p;
-        let mut word = [0; 8];
-        word.copy_from_slice(&h[at..at + 8]);
-        if u64::from_le_bytes(word) & persons != 0 {
+        if word(h, 2560 + 128 * o + 8 * p) & persons != 0 {
             done |= 1 << p;
         }
     }
@@ -152,12 +173,12 @@ fn are_declared(t: &Tables, s: usize, o: usize) -> bool {
     s < 64 && t.persons[s].declared && o < 128 && t.folders[o].declared
 }
 
-fn judge_step(t: &Tables, h: &[u8], s: usize, p: usize, o: usize) -> u8 {
+fn judge_step(t: &Tables, persons: u64, h: &[u8], s: usize, p: usize, o: usize) -> u8 {
     if p > 15 || !are_declared(t, s, o) {
         return 13;
     }
     let number = judge_access(t, h, s, o, 48 + p, false);
-    if number != 0 || !in_force(t, 3) || pipeline_permits(t, h, p, o) {
+    if number != 0 || !in_force(t, 3) || pipeline_permits(t, persons, h, p, o) {
         return number;
     }
     17
@@ -185,7 +206,7 @@ fn judge_start(t: &Tables, h: &[u8], s: usize, u: usize) -> u8 {
 }
 
 /// The number, the index of the request's bit and the length of its record.
-fn judge(t: &Tables, h: &[u8], bytes: &[u8]) -> (u8, usize, usize) {
+fn judge(t: &Tables, persons: u64, h: &[u8], bytes: &[u8]) -> (u8, usize, usize) {
     let field = |place: usize| usize::from(bytes[place]);
     let length = record_length(bytes);
     if length == 0 {
@@ -206,7 +227,10 @@ fn judge(t: &Tables, h: &[u8], bytes: &[u8]) -> (u8, usize, usize) {
         18 => (judge_start(t, h, s, field(2)), 16384 + 64 * s + field(2)),
         _ => {
             let (p, o) = (field(2), field(3));
-            (judge_step(t, h, s, p, o), 20480 + 64 * (16 * o + p) + s)
+            (
+                judge_step(t, persons, h, s, p, o),
+                20480 + 64 * (16 * o + p) + s,
+            )
         }
     };
     (number, index, length)
@@ -249,9 +273,10 @@ pub fn run(book: &[u8], h: &mut [u8], requests: &[u8], answers: &mut [u8]) -> (u
     if answers.len() < answers_due(requests) {
         return (18, 0, 0);
     }
+    let persons = declared_persons(&t);
     let (mut at, mut i, mut granted) = (0, 0, 0);
     while at < requests.len() {
-        let (number, index, length) = judge(&t, h, &requests[at..]);
+        let (number, index, length) = judge(&t, persons, h, &requests[at..]);
         if number == 0 {
             h[index / 8] |= 1 << (index % 8);
             granted += 1;

@@ -8,8 +8,12 @@ use reference::random::Random;
 use std::hint::black_box;
 use std::time::Instant;
 
-/// How often each side runs a workload; the quickest time counts.
-const ROUNDS: usize = 9;
+/// How many requests each side puts in all rounds of a workload together; the
+/// quickest round counts.
+const REQUESTS: usize = 2_000_000;
+
+/// At least and at most so many rounds.
+const ROUNDS: (usize, usize) = (9, 9_999);
 
 const DAY: usize = 2_300;
 const MONTH: usize = 70_000;
@@ -124,7 +128,7 @@ fn compare(workload: &Workload) {
         |history: &mut [u8], answers: &mut [u8]| baseline::run(&book, history, &requests, answers);
     let (mut ours, mut theirs) = (f64::MAX, f64::MAX);
     let mut granted = 0;
-    for _ in 0..ROUNDS {
+    for _ in 0..(REQUESTS / workload.requests).clamp(ROUNDS.0, ROUNDS.1) {
         let (left, nanoseconds) = timed(proved, &first, workload.requests);
         let (plain_left, plain_nanoseconds) = timed(plain, &first, workload.requests);
         assert!(left == plain_left, "{}: the two differ", workload.name);

@@ -1,7 +1,10 @@
-// A history's bits (document 01, "History"): one bit for each possible request.
+// A history's bits (document 01, "History"): one bit for each possible request; and 64 of them at once.
 ghost use mathlib.Core.Path.{_≡_};
+ghost use Prim.Native.Nat.{_+_, _≤_, _<_};
+ghost use lib.ListN.{length};
 ghost use Rattle.policy.specs.History.{bitAt, withBitAt};
 ghost use Rattle.policy.specs.Calls.{blankNumber, blankHistory};
+ghost use Rattle.history.specs.Words.{halfAt, wordAt};
 
 // The bytes of a history.
 pub const BYTES: usize = 18944;
@@ -18,6 +21,29 @@ pub fn bit_at(h: &[u8], i: usize) -> bool
         return false;
     }
     bits::bit8(h[at], i)
+}
+
+// A byte as a number of 64 bits.
+fn wide(x: u8) -> u64
+    ensures { λ r. ⌜ (r ≡ x) × (r < 256) ⌝ }
+{
+    x as u64
+}
+
+// The 32 bits that the four bytes from a place on hold.
+fn half_at(h: &[u8], at: usize) -> u64
+    requires { ⌜ at + 4 ≤ length (now h) ⌝ }
+    ensures { λ r. ⌜ (r ≡ halfAt (now (h .entry)) at) × (r < 4294967296) ⌝ }
+{
+    wide(h[at]) + 256 * (wide(h[at + 1]) + 256 * (wide(h[at + 2]) + 256 * wide(h[at + 3])))
+}
+
+// The 64 bits that the eight bytes from a place on hold.
+pub fn word_at(h: &[u8], at: usize) -> u64
+    requires { ⌜ at + 8 ≤ length (now h) ⌝ }
+    ensures { λ r. ⌜ r ≡ wordAt (now (h .entry)) at ⌝ }
+{
+    half_at(h, at) + 4294967296 * half_at(h, at + 4)
 }
 
 // Sets the bit of index i; past the end nothing changes.

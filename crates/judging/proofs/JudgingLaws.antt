@@ -4,7 +4,7 @@ use Prim.Native.Nat.{ℕ, _+_, _<_}
 use native.Mathlib.Omega.{arith}
 use mathlib.Core.Path.{_≡_, refl, sym, ap, _∙_}
 use mathlib.Core.Logic.{_≢_, _⊎_, inl, inr}
-use mathlib.Core.Bool.{Bool, true, false, cond, not, _&&_}
+use mathlib.Core.Bool.{Bool, true, false, cond, not, _&&_, _||_, false≢true}
 use mathlib.Core.List.{List, [], _∷_}
 use mathlib.Core.Option.{some}
 use borrow.Author.Tests.{not-false}
@@ -12,11 +12,12 @@ use Rattle.bits.specs.Bits.{maskBelow}
 use Rattle.bits.specs.Bounded.{_⇒_}
 use Rattle.bits.proofs.Booleans.{and-left, and-right, and-both, false-intro, false-elim}
 use Rattle.level.specs.Levels.{atMost}
+use Rattle.policy.specs.declared.Folder.{Folder}
 use Rattle.policy.specs.declared.Tables.{Tables}
 use Rattle.policy.specs.Checks.{ladder}
 use Rattle.policy.specs.Tables.{folderAt, personDeclared, folderDeclared, inForce}
 use Rattle.policy.specs.Rulebook.{given}
-use Rattle.policy.specs.Request.{Request, read, write, start, step, subject}
+use Rattle.policy.specs.Request.{Request, read, write, start, step, subject, index}
 use Rattle.policy.specs.Rules.{
   declared,
   right,
@@ -37,7 +38,8 @@ use Rattle.rules.specs.Sets.{wallBy, rolesBy}
 use Rattle.rules.proofs.SetLaws.{wall-by, roles-by}
 use Rattle.request.specs.declared.Parsed.{Parsed}
 use Rattle.request.specs.declared.Parsed.the-variants.{Read, Write, Start, Step}
-use Rattle.judging.specs.Judging.{numberOf, accessNumber, judged, parsedNumber}
+use Rattle.request.specs.Parsed.{indexOf}
+use Rattle.judging.specs.Judging.{numberOf, asksAccess, accessNumber, judged, parsedNumber}
 
 -- ---- a rule in force or not
 
@@ -52,6 +54,18 @@ passes b w (inr n) = rw n
 
 pub refuses : (b w : Bool) → b ≡ true → w ≡ false → (b ⇒ w) ≡ false
 refuses b w p q = rw p q
+
+-- the test of the levels, by the entry that was read: of a write or not, of a write, and of another access
+pub level-test : (writes : Bool) (own : ℕ) {e f : Folder} {r : Bool} → e ≡ f → r ≡ (writes ⇒ atMost 12 (e .level .0) own)
+    → (writes ⇒ atMost 12 (f .level .0) own) ≡ r
+level-test writes own same test = sym (test ∙ ap (λ (x : Folder). writes ⇒ atMost 12 (x .level .0) own) same)
+
+pub level-written : {writes r : Bool} {own current : ℕ} {e f : Folder} → writes ≡ true → e ≡ f → own ≡ current
+    → r ≡ atMost 12 (e .level .0) own → (writes ⇒ atMost 12 (f .level .0) current) ≡ r
+level-written w same level test = rw (w, ← same, ← level) (sym test)
+
+pub level-unwritten : (writes b : Bool) → writes ≡ false → (writes ⇒ b) ≡ true
+level-unwritten writes b w = rw w
 
 -- a test of two that does not fail
 pub known-both : (a b r : Bool) → r ≡ a && b → not r ≡ false → (a ≡ true) × (b ≡ true)
@@ -75,6 +89,24 @@ module _ (t : Tables) (w l r : Bool) where
   pub number-none : (inForce t 0 ⇒ w) ≡ true → (inForce t 1 ⇒ l) ≡ true → (inForce t 2 ⇒ r) ≡ true → numberOf t w l r ≡ 0
   unfolding numberOf ladder
   number-none a b c = rw (a, b, c)
+
+-- where none of them is in force, none refuses
+none-in-force : (a b c : Bool) → a || b || c ≡ false → (a ≡ false) × (b ≡ false) × (c ≡ false)
+none-in-force true true true e = absurd (false≢true (sym e))
+none-in-force true true false e = absurd (false≢true (sym e))
+none-in-force true false true e = absurd (false≢true (sym e))
+none-in-force true false false e = absurd (false≢true (sym e))
+none-in-force false true true e = absurd (false≢true (sym e))
+none-in-force false true false e = absurd (false≢true (sym e))
+none-in-force false false true e = absurd (false≢true (sym e))
+none-in-force false false false e = (refl, refl, refl)
+
+pub access-free : (t : Tables) (H : Request → Bool) (s o new : ℕ) (writes : Bool) → asksAccess t ≡ false
+    → accessNumber t H s o new writes ≡ 0
+unfolding asksAccess accessNumber
+access-free t H s o new writes off =
+    let (a, b, c) = none-in-force (inForce t 0) (inForce t 1) (inForce t 2) off in
+    number-none t _ _ _ (passes _ _ (inr a)) (passes _ _ (inr b)) (passes _ _ (inr c))
 
 -- ---- a whole request
 
@@ -202,3 +234,17 @@ module _ (t : Tables) (H : Request → Bool) (r : Parsed) where
       → judged t H (step s n o) ≡ parsedNumber t H r
   unfolding judged parsedNumber
   parsed-step a b d s n o e p q k = rw (e, p, q, k)
+
+-- the index of a parsed request, of its kind and numbers
+module _ (r : Parsed) where
+  pub index-read : (a b s o : ℕ) → r ≡ Read a b → s ≡ a → o ≡ b → index (read s o) ≡ indexOf r
+  index-read a b s o e f g = rw (e, f, g)
+
+  pub index-write : (a b s o : ℕ) → r ≡ Write a b → s ≡ a → o ≡ b → index (write s o) ≡ indexOf r
+  index-write a b s o e f g = rw (e, f, g)
+
+  pub index-start : (a b s u : ℕ) → r ≡ Start a b → s ≡ a → u ≡ b → index (start s u) ≡ indexOf r
+  index-start a b s u e f g = rw (e, f, g)
+
+  pub index-step : (a b d s n o : ℕ) → r ≡ Step a b d → s ≡ a → n ≡ b → o ≡ d → index (step s n o) ≡ indexOf r
+  index-step a b d s n o e f g i = rw (e, f, g, i)

@@ -1,7 +1,7 @@
 -- What the functions of this crate compute: the number of a request by the checks 13 to 17, and its first part for accesses.
 use Prim.Native.Nat.{ℕ}
 use mathlib.Core.Path.{_≡_}
-use mathlib.Core.Bool.{Bool, true}
+use mathlib.Core.Bool.{Bool, true, _||_}
 use mathlib.Core.List.{List, [], _∷_}
 use mathlib.Core.Option.{some}
 use lib.ListN.{length}
@@ -29,6 +29,10 @@ pub record Ready (t : Tables) (h : List ℕ) : Type 0 where
 unfoldable pub numberOf : Tables → Bool → Bool → Bool → ℕ
 numberOf t wall level roles =
     ladder (((inForce t 0 ⇒ wall) else 14) ∷ ((inForce t 1 ⇒ level) else 15) ∷ ((inForce t 2 ⇒ roles) else 16) ∷ [])
+
+-- one of these three is in force
+unfoldable pub asksAccess : Tables → Bool
+asksAccess t = inForce t 0 || inForce t 1 || inForce t 2
 
 -- these three for an access by person s to folder o that uses a right, and is a write or not
 unfoldable pub accessNumber : Tables → (Request → Bool) → ℕ → ℕ → ℕ → Bool → ℕ

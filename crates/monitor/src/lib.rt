@@ -2,7 +2,6 @@
 // own number is not 0 changes no byte lent to it.
 ghost use mathlib.Core.Path.{_≡_};
 ghost use Prim.Native.Nat.{_<_};
-ghost use Rattle.policy.specs.Tables.{personDeclared};
 ghost use Rattle.policy.specs.Rulebook.{loadBook};
 ghost use Rattle.policy.specs.Checks.{ladder};
 ghost use Rattle.policy.specs.Calls.{
@@ -72,7 +71,8 @@ pub fn judge(t: Tables, h: &[u8], request: &[u8]) -> u8
     if number != PASSED {
         return number;
     }
-    judging::judge_bytes(t, h, request)
+    let words = packing::pack(t);
+    judging::judge_bytes(&words, h, request)
 }
 
 // Judges the request at the front of the bytes, and records it if it is granted.
@@ -86,7 +86,8 @@ pub fn put(t: Tables, h: &mut [u8], request: &[u8]) -> u8
     if number != PASSED {
         return number;
     }
-    running::put_ready(t, h, request)
+    let words = packing::pack(t);
+    running::put_ready(&words, h, request)
 }
 
 // A refused run.
@@ -113,7 +114,8 @@ pub fn run(t: Tables, h: &mut [u8], requests: &[u8], answers: &mut [u8]) -> Ran
     if answers.len() < running::answers_due(requests) {
         return no_run(TOO_FEW_ANSWERS);
     }
-    let counts = running::run_ready(t, h, requests, answers);
+    let words = packing::pack(t);
+    let counts = running::run_ready(&words, h, requests, answers);
     Ran {
         number: PASSED,
         granted: counts.granted,
@@ -140,17 +142,6 @@ fn wide(x: u8) -> usize
     x as usize
 }
 
-// Whether person s is declared.
-fn is_person(t: Tables, s: usize) -> bool
-    ensures { λ r. ⌜ r ≡ personDeclared t s ⌝ }
-{
-    if s < 64 {
-        let e = t.persons[s];
-        return e.declared;
-    }
-    false
-}
-
 // A person's current level, the number of rights used and the number of firms opened.
 pub fn standing(t: Tables, h: &[u8], person: u8) -> Standing
     ensures { λ r. ⌜ r ≡ standingOf t (now (h .entry)) person ⌝ }
@@ -159,11 +150,12 @@ pub fn standing(t: Tables, h: &[u8], person: u8) -> Standing
     if number != PASSED {
         return no_standing(number);
     }
+    let words = packing::pack(t);
     let s = wide(person);
-    if !is_person(t, s) {
+    if !packed::is_person(&words, s) {
         return no_standing(judging::UNDECLARED);
     }
-    let did = past::past_of(t, h, s);
+    let did = past::past_of(&words, h, s);
     let level = did.level;
     Standing {
         number: 0,

@@ -24,30 +24,10 @@ use Rattle.policy.specs.History.{bitAt}
 use Rattle.policy.specs.Request.{Request, read, write, start, step, index, setOf}
 use Rattle.policy.specs.Rules.{right, someRequest, did, accessed, opened, used, loweredBy, currentLevel}
 use Rattle.past.specs.declared.Past.{Past}
-use Rattle.past.specs.Past.{pastOf}
+use Rattle.past.specs.Past.{usedOn, openedOn, pastBelow, pastOf}
 use Rattle.past.specs.Turns.{withBitIf, levelIf, stepAt, startAt, started, rightsOf, rightsOn, levelAfter, pastWith, pastAfter}
 use Rattle.bits.proofs.Masks.{bit-mask-below, mask-lt, mask-of-bits, mask-ext, mask-none, mask-or, mask-with, mask-shifted}
 use Rattle.past.proofs.Recorded.{firm-below, kind-below, did-read, did-write, did-step, did-start, lowered}
-
--- person s used right x on folder o
-unfoldable pub usedOn : Tables → (Request → Bool) → ℕ → ℕ → ℕ → Bool
-usedOn t H s x o =
-    did t H (read s o) && eqb (right t (read s o)) x
-    || did t H (write s o) && eqb (right t (write s o)) x
-    || anyBelow 16 (λ p. did t H (step s p o) && eqb (right t (step s p o)) x)
-
--- person s opened firm f by folder o
-unfoldable pub openedOn : Tables → (Request → Bool) → ℕ → ℕ → ℕ → Bool
-openedOn t H s f o = accessed t H s o && eqb (folderAt t o .firm) f
-
--- what person s did on the folders below n
-unfoldable pub pastBelow : Tables → (Request → Bool) → ℕ → ℕ → Past
-pastBelow t H s n =
-    record {
-      level = record { 0 = foldBelow n (loweredBy t H s) (personAt t s .level .0) };
-      rights = maskBelow 64 (λ x. anyBelow n (usedOn t H s x));
-      firms = maskBelow 64 (λ f. anyBelow n (openedOn t H s f));
-    }
 
 same-past : {level level′ rights rights′ firms firms′ : ℕ} → level ≡ level′ → rights ≡ rights′ → firms ≡ firms′
     → _≡_ {A = Past} (record { level = record { 0 = level }; rights = rights; firms = firms })
@@ -273,6 +253,11 @@ module _ (t : Tables) (h : List ℕ) (s : ℕ) (person : personDeclared t s ≡ 
       ⊎-elim (λ d. declared-step n l g d)
       (λ d. after-undeclared (folderAt t n) h s n _ d ∙ untouched t (setOf h) s n (undeclared n l d))
       (decide (folderAt t n .declared))
+
+  -- a turn of the pass, of the entry and of what was gathered before
+  pub past-turn : (n : ℕ) {e : Folder} {before after : Past} → n < 128 → given t ≡ true → e ≡ folderAt t n
+      → before ≡ pastBelow t (setOf h) s n → after ≡ pastAfter e h s n before → after ≡ pastBelow t (setOf h) s (n + 1)
+  past-turn n l g entry gathered turn = turn ∙ rw (entry, gathered) (past-step n l g)
 
 -- ---- the whole
 

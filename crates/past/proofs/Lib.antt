@@ -1,3 +1,6 @@
 pub mod Recorded
+pub mod LevelLaws
+pub mod StepLaws
+pub mod TouchedLaws
 pub mod Gathered
 pub mod PastLaws

@@ -13,6 +13,7 @@ use Rattle.bits.specs.Bounded.{anyBelow, allBelow}
 use Rattle.bits.proofs.Booleans.{and-left, and-right}
 use Rattle.bits.proofs.BitLaws.{bit-zero}
 use Rattle.bits.proofs.Bounds.{all-at, none-at, none-any}
+use Rattle.policy.specs.declared.Folder.{Folder}
 use Rattle.policy.specs.declared.Tables.{Tables}
 use Rattle.policy.specs.Tables.{firmAt, personAt, folderAt, roleAt, enables, firmDeclared, personDeclared, folderDeclared}
 use Rattle.policy.specs.Rulebook.{given, firmGiven, personGiven, folderGiven, roleGiven, hasCircle, hasLoose}
@@ -55,6 +56,11 @@ pub kind-below : (t : Tables) → given t ≡ true → (o : ℕ) → o < 128 →
 kind-below t g o l d =
     let k = leb-true (folderAt t o .kind) 15 (and-right (firmDeclared t (folderAt t o .firm)) _ (in-range t g o l d)) in omega arith
 
+-- the same of an entry that was read
+pub entry-below : (t : Tables) → given t ≡ true → (o : ℕ) → o < 128 → {e : Folder} → e ≡ folderAt t o
+    → (e .declared ≡ true → e .firm < 64) × (e .declared ≡ true → e .kind < 16)
+entry-below t g o l entry = rw entry (firm-below t g o l, kind-below t g o l)
+
 -- ---- requests in the set
 
 -- the place need not be asked of a declared request
@@ -66,10 +72,12 @@ pub did-bit : (t : Tables) (h : List ℕ) (r : Request) → did t (setOf h) r �
 unfolding did setOf
 did-bit t h r = place-implied (hasPlace r) (bitAt h (index r)) (declared t r) (declared-place t r)
 
--- one test after another
-nested : (a b : Bool) (x y : ℕ) → cond (a && b) x y ≡ cond a (cond b x y) y
-nested true b x y = refl
-nested false b x y = refl
+-- one test after another, in the other order
+nested : (a b : Bool) (x y : ℕ) → cond (a && b) x y ≡ cond b (cond a x y) y
+nested true true x y = refl
+nested true false x y = refl
+nested false true x y = refl
+nested false false x y = refl
 
 module _ (t : Tables) (h : List ℕ) (s : ℕ) (person : personDeclared t s ≡ true) where
   pub did-read : (o : ℕ) → o < 128 → did t (setOf h) (read s o) ≡ folderAt t o .declared && bitAt h (index (read s o))
@@ -89,7 +97,8 @@ module _ (t : Tables) (h : List ℕ) (s : ℕ) (person : personDeclared t s ≡ 
   did-start u l = did-bit t h (start s u) ∙ rw (person, lt-ltb u 64 l)
 
   -- the level after a folder, by its entry and its bit
-  pub lowered : (o level : ℕ) → o < 128 → levelAfter (folderAt t o) h s o level ≡ loweredBy t (setOf h) s o level
+  pub lowered : (o level : ℕ) → o < 128
+      → levelAfter (folderAt t o) (bitAt h (index (read s o))) level ≡ loweredBy t (setOf h) s o level
   unfolding levelAfter loweredBy
   lowered o level l = sym (rw (did-read o l) (nested (folderAt t o .declared) (bitAt h (index (read s o))) _ level))
 

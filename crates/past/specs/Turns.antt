@@ -6,12 +6,12 @@ use mathlib.Core.List.{List}
 use lib.Bits.{bitOr}
 use lib.Dec.{eqb}
 use lib.ListN.{length, getD}
-use Rattle.bits.specs.Bits.{withBit, maskBelow}
-use Rattle.bits.specs.Bounded.{anyBelow}
+use Rattle.bits.specs.Bits.{bit, withBit, maskBelow}
+use Rattle.bits.specs.Bounded.{anyBelow, foldBelow}
 use Rattle.level.specs.Levels.{meetOf}
 use Rattle.policy.specs.declared.Folder.{Folder}
 use Rattle.policy.specs.declared.Tables.{Tables}
-use Rattle.policy.specs.Tables.{personAt}
+use Rattle.policy.specs.Tables.{personAt, folderAt}
 use Rattle.policy.specs.History.{historyBytes, bitAt}
 use Rattle.policy.specs.Request.{read, write, start, step, index}
 use Rattle.past.specs.declared.Past.{Past}
@@ -32,6 +32,10 @@ pub record FolderInBounds (e : Folder) (h : List ℕ) (s o : ℕ) : Type 0 where
 abbrev pub withBitIf : Bool → ℕ → ℕ → ℕ
 withBitIf add n k = cond add (withBit n k) n
 
+-- a person neither read nor wrote a folder, and applied no step to it
+unfoldable pub isUntouched : Bool → Bool → ℕ → Bool
+isUntouched wasRead wasWritten steps = not wasRead && not wasWritten && eqb steps 0
+
 -- the level after a folder, if it was read
 abbrev pub levelIf : Bool → ℕ → ℕ → ℕ
 levelIf wasRead level folder = cond wasRead (meetOf 12 level folder) level
@@ -49,9 +53,17 @@ unfoldable pub rightsOn : Folder → List ℕ → ℕ → ℕ → ℕ
 rightsOn e h s o =
     rightsOf (bitAt h (index (read s o))) (bitAt h (index (write s o))) (maskBelow 16 (stepAt h s o)) (e .kind)
 
--- the level after folder o, whose entry is e
-unfoldable pub levelAfter : Folder → List ℕ → ℕ → ℕ → ℕ → ℕ
-levelAfter e h s o level = cond (e .declared) (levelIf (bitAt h (index (read s o))) level (e .level .0)) level
+-- the level after a folder with entry e, which lowers it if it was read and is declared
+unfoldable pub levelAfter : Folder → Bool → ℕ → ℕ
+levelAfter e wasRead level = cond wasRead (cond (e .declared) (meetOf 12 level (e .level .0)) level) level
+
+-- the level after folder first + i, where bit i of a set says whether it was read
+unfoldable pub levelAt : Tables → ℕ → ℕ → ℕ → ℕ → ℕ
+levelAt t set first i level = levelAfter (folderAt t (first + i)) (bit set i) level
+
+-- the level after the n folders from `first` on
+unfoldable pub levelOver : Tables → ℕ → ℕ → ℕ → ℕ → ℕ
+levelOver t set first n level = foldBelow n (levelAt t set first) level
 
 -- what the person did after folder o, whose entry is e and whose rights used are not none
 unfoldable pub pastWith : Folder → List ℕ → ℕ → ℕ → Past → Past

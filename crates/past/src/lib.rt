@@ -5,21 +5,22 @@
 // Rights: the folder's kind for a read, 16 + kind for a write, 32 for a start, 48 + p for step p.
 ghost use mathlib.Core.Path.{_≡_};
 ghost use mathlib.Core.Bool.{true};
-ghost use Prim.Native.Nat.{_*_, _<_};
+ghost use Prim.Native.Nat.{_+_, _*_, _%_, _≤_, _<_};
 ghost use lib.ListN.{length};
 ghost use Rattle.bits.specs.Bits.{maskBelow};
 ghost use Rattle.bits.specs.Bounded.{anyBelow};
 ghost use Rattle.policy.specs.Tables.{personDeclared};
 ghost use Rattle.policy.specs.Rulebook.{given};
 ghost use Rattle.policy.specs.History.{historyBytes, bitAt};
-ghost use Rattle.policy.specs.Request.{setOf};
+ghost use Rattle.policy.specs.Request.{read, write, index, setOf};
 ghost use Rattle.policy.specs.Rules.{currentLevel};
-ghost use Rattle.past.specs.Past.{pastOf};
-ghost use Rattle.past.specs.Turns.{InBounds, FolderInBounds, withBitIf, levelIf, stepAt, rightsOf};
-ghost use Rattle.past.specs.Turns.{levelAfter, pastAfter, startByteAt, started};
+ghost use Rattle.packed.specs.Packed.{tablesOf};
+ghost use Rattle.past.specs.Past.{pastBelow, pastOf};
+ghost use Rattle.past.specs.Turns.{InBounds, FolderInBounds, isUntouched, withBitIf, levelIf, stepAt, rightsOf};
+ghost use Rattle.past.specs.Turns.{levelAfter, levelOver, pastAfter, startByteAt, started};
 use level::Level;
+use packed::Words;
 use policy::Folder;
-use policy::Tables;
 
 // A person's current level, the set of the rights used and the set of the firms opened: bit k for number k.
 pub struct Past {
@@ -57,19 +58,26 @@ fn bit_within(h: &[u8], i: usize) -> bool
     bits::bit8(h[i / 8], i)
 }
 
-// The set of the steps that person s applied to folder o. The bits of two steps that follow one another are eight bytes apart.
+// A byte as a number of 32 bits.
+fn wide(x: u8) -> u32
+    ensures { λ r. ⌜ (r ≡ x) × (r < 256) ⌝ }
+{
+    x as u32
+}
+
+// The set of the steps that person s applied to folder o. The bits of two steps that follow one another are eight bytes apart: from the
+// last step down, each turn doubles the sum and adds the step's bit, all shifted up by the number of the person's bit in its byte.
 fn steps_of(h: &[u8], s: usize, o: usize) -> u16
     requires { ⌜ InBounds (now h) s o ⌝ }
     ensures { λ r. ⌜ r ≡ maskBelow 16 (stepAt (now (h .entry)) s o) ⌝ }
 {
-    let first = 2560 + 128 * o + s / 8;
-    let mut steps = 0;
+    let last = 2680 + 128 * o + s / 8;
+    let one = bits::with_bit8(0, s);
+    let mut sum: u32 = 0;
     for p in 0..16 {
-        if bits::bit8(h[first + 8 * p], s) {
-            steps = bits::with_bit16(steps, p);
-        }
+        sum = 2 * sum + wide(h[last - 8 * p] & one);
     }
-    steps
+    (sum >> (s % 8)) as u16
 }
 
 // The rights that a read, a write and a set of steps use on a folder of a kind.
@@ -81,39 +89,77 @@ fn rights_of(read: bool, wrote: bool, steps: u16, kind: usize) -> u64
     with_bit_if(wrote, with_bit_if(read, applied, kind), 16 + kind)
 }
 
-// What person s did up to folder o, whose entry is `folder`, if `before` is what the person did on the folders before it.
-fn past_after(folder: Folder, h: &[u8], s: usize, o: usize, before: Past) -> Past
-    requires { ⌜ FolderInBounds folder (now h) s o ⌝ }
+// Whether a person neither read nor wrote a folder, and applied no step to it.
+fn is_untouched(seen: bool, changed: bool, steps: u16) -> bool
+    ensures { λ r. ⌜ r ≡ isUntouched seen changed steps ⌝ }
+{
+    if seen {
+        return false;
+    }
+    if changed {
+        return false;
+    }
+    steps == 0
+}
+
+// What person s did up to folder o, whose entry is `folder` and which was read and written or not, if `before` is what the person did on
+// the folders before it.
+fn past_after(
+    folder: Folder,
+    h: &[u8],
+    s: usize,
+    o: usize,
+    seen: bool,
+    changed: bool,
+    before: Past,
+) -> Past
+    requires { ⌜
+        FolderInBounds folder (now h) s o × (seen ≡ bitAt (now h) (index (read s o)))
+        × (changed ≡ bitAt (now h) (index (write s o)))
+        ⌝ }
     ensures { λ r. ⌜ r ≡ pastAfter folder (now (h .entry)) s o before ⌝ }
 {
     if !folder.declared {
         return before;
     }
-    let read = bit_within(h, 128 * s + o);
-    let wrote = bit_within(h, 8192 + 128 * s + o);
-    let rights = rights_of(read, wrote, steps_of(h, s, o), folder.kind as usize);
-    if rights == 0 {
+    let steps = steps_of(h, s, o);
+    if is_untouched(seen, changed, steps) {
         return before;
     }
     let level = before.level;
     let folder_level = folder.level;
     Past {
-        level: level_if(read, level, folder_level),
-        rights: before.rights | rights,
+        level: level_if(seen, level, folder_level),
+        rights: before.rights | rights_of(seen, changed, steps, folder.kind as usize),
         firms: bits::with_bit64(before.firms, folder.firm as usize),
     }
 }
 
-// The level of person s after folder o, whose entry is `folder`.
-fn level_after(folder: Folder, h: &[u8], s: usize, o: usize, before: Level) -> Level
-    requires { ⌜ InBounds (now h) s o ⌝ }
-    ensures { λ r. ⌜ r .0 ≡ levelAfter folder (now (h .entry)) s o (before .0) ⌝ }
+// What person s did up to the 64th folder from `first` on, if `before` is what the person did on the folders before them. Their reads are
+// one word of the history, and their writes another.
+fn past_over(t: &Words, h: &[u8], s: usize, first: usize, before: Past) -> Past
+    requires { ⌜
+        (length (now h) ≡ historyBytes) × (given (tablesOf (now t)) ≡ true) × (personDeclared (tablesOf (now t)) s ≡ true)
+        × (first % 8 ≡ 0) × (first + 64 ≤ 128) × (before ≡ pastBelow (tablesOf (now t)) (setOf (now h)) s first)
+        ⌝ }
+    ensures { λ r. ⌜ r ≡ pastBelow (tablesOf (now (t .entry))) (setOf (now (h .entry))) s (first + 64) ⌝ }
 {
-    if !folder.declared {
-        return before;
+    let read = history::word_at(h, 16 * s + first / 8);
+    let wrote = history::word_at(h, 1024 + 16 * s + first / 8);
+    let mut past = before;
+    for i in 0..64 {
+        let o = first + i;
+        past = past_after(
+            packed::folder(t, o),
+            h,
+            s,
+            o,
+            bits::bit64(read, i),
+            bits::bit64(wrote, i),
+            past,
+        );
     }
-    let folder_level = folder.level;
-    level_if(bit_within(h, 128 * s + o), before, folder_level)
+    past
 }
 
 // Whether a byte that holds starts by person s has a bit set.
@@ -130,15 +176,15 @@ fn any_start(h: &[u8], s: usize) -> bool
 }
 
 // Whether person s started a declared person.
-fn has_started(t: Tables, h: &[u8], s: usize) -> bool
+fn has_started(t: &Words, h: &[u8], s: usize) -> bool
     requires { ⌜ (length (now h) ≡ historyBytes) × (s < 64) ⌝ }
-    ensures { λ r. ⌜ r ≡ started t (now (h .entry)) s ⌝ }
+    ensures { λ r. ⌜ r ≡ started (tablesOf (now (t .entry))) (now (h .entry)) s ⌝ }
 {
     if !any_start(h, s) {
         return false;
     }
     for u in 0..64 {
-        let person = t.persons[u];
+        let person = packed::person(t, u);
         if person.declared {
             if bit_within(h, 16384 + 64 * s + u) {
                 return true;
@@ -149,21 +195,19 @@ fn has_started(t: Tables, h: &[u8], s: usize) -> bool
 }
 
 // What person s did: every folder in turn, then the starts.
-pub fn past_of(t: Tables, h: &[u8], s: usize) -> Past
-    requires { ⌜ (length (now h) ≡ historyBytes) × (given t ≡ true) × (personDeclared t s ≡ true) ⌝ }
-    ensures { λ r. ⌜ r ≡ pastOf t (setOf (now (h .entry))) s ⌝ }
+pub fn past_of(t: &Words, h: &[u8], s: usize) -> Past
+    requires { ⌜ (length (now h) ≡ historyBytes) × (given (tablesOf (now t)) ≡ true) × (personDeclared (tablesOf (now t)) s ≡ true) ⌝ }
+    ensures { λ r. ⌜ r ≡ pastOf (tablesOf (now (t .entry))) (setOf (now (h .entry))) s ⌝ }
 {
-    let person = t.persons[s];
+    let person = packed::person(t, s);
     let first = person.level;
-    let mut past = Past {
+    let none = Past {
         level: first,
         rights: 0,
         firms: 0,
     };
-    for o in 0..128 {
-        let folder = t.folders[o];
-        past = past_after(folder, h, s, o, past);
-    }
+    let low = past_over(t, h, s, 0, none);
+    let past = past_over(t, h, s, 64, low);
     let level = past.level;
     let rights = with_bit_if(has_started(t, h, s), past.rights, 32);
     Past {
@@ -173,16 +217,39 @@ pub fn past_of(t: Tables, h: &[u8], s: usize) -> Past
     }
 }
 
-// The current level of person s. Only reads are looked at.
-pub fn current_level(t: Tables, h: &[u8], s: usize) -> Level
-    requires { ⌜ (length (now h) ≡ historyBytes) × (given t ≡ true) × (personDeclared t s ≡ true) ⌝ }
-    ensures { λ r. ⌜ r .0 ≡ currentLevel t (setOf (now (h .entry))) s ⌝ }
+// The level after a folder with this entry, which lowers it if it is declared and was read.
+fn level_after(folder: Folder, read: bool, before: Level) -> Level
+    ensures { λ r. ⌜ r .0 ≡ levelAfter folder read (before .0) ⌝ }
 {
-    let person = t.persons[s];
-    let mut level = person.level;
-    for o in 0..128 {
-        let folder = t.folders[o];
-        level = level_after(folder, h, s, o, level);
+    if !read {
+        return before;
+    }
+    if !folder.declared {
+        return before;
+    }
+    let folder_level = folder.level;
+    before.meet(folder_level)
+}
+
+// The level after the 64 folders from `first` on, of which those in the set were read: bit i for folder first + i.
+fn level_over(t: &Words, read: u64, first: usize, before: Level) -> Level
+    requires { ⌜ first + 64 ≤ 128 ⌝ }
+    ensures { λ r. ⌜ r .0 ≡ levelOver (tablesOf (now (t .entry))) read first 64 (before .0) ⌝ }
+{
+    let mut level = before;
+    for i in 0..64 {
+        level = level_after(packed::folder(t, first + i), bits::bit64(read, i), level);
     }
     level
+}
+
+// The current level of person s. Only reads are looked at: the bits of 64 folders are one word of the history.
+pub fn current_level(t: &Words, h: &[u8], s: usize) -> Level
+    requires { ⌜ (length (now h) ≡ historyBytes) × (given (tablesOf (now t)) ≡ true) × (personDeclared (tablesOf (now t)) s ≡ true) ⌝ }
+    ensures { λ r. ⌜ r .0 ≡ currentLevel (tablesOf (now (t .entry))) (setOf (now (h .entry))) s ⌝ }
+{
+    let person = packed::person(t, s);
+    let first = person.level;
+    let low = level_over(t, history::word_at(h, 16 * s), 0, first);
+    level_over(t, history::word_at(h, 16 * s + 8), 64, low)
 }

@@ -1,110 +1,40 @@
--- The bits of eight bytes from a place on are the 64 bits that a history has there, so the sets that the code gathers are those of the
--- definitions: the declared persons who did a step, the steps done on a folder, and the steps that lead to another.
-use Prim.Native.Nat.{ℕ, zero, suc, _+_, _-_, _*_, _/_, _%_, _^_, _≤_, _<_}
+-- The word at a step's place in a history has a bit for each person who did the step, so the sets that the code gathers are those of
+-- the definitions: the declared persons who did a step, the steps done on a folder, and the steps that lead to another.
+use Prim.Native.Nat.{ℕ, zero, suc, _+_, _*_, _%_, _<_}
 use native.Mathlib.Nat.{lt-of-le-of-lt}
 use native.Mathlib.Omega.{arith}
 use mathlib.Core.Path.{_≡_, refl, sym, ap, ap₂, _∙_}
-use mathlib.Core.Logic.{⊎-elim, _≢_}
-use mathlib.Core.Bool.{Bool, true, false, cond, not, _&&_, Bool·not-not, and-comm}
-use mathlib.Core.List.{List, [], _∷_}
-use lib.Dec.{eqb, ltb}
+use mathlib.Core.Logic.{_≢_}
+use mathlib.Core.Bool.{Bool, true, not, _&&_, Bool·not-not, and-comm}
+use mathlib.Core.List.{List}
+use lib.Dec.{eqb}
 use lib.Bits.{bitAnd, and-le-r}
-use lib.ListN.{length, getD}
-use borrow.Author.Tests.{ltb-true, ltb-false}
+use lib.ListN.{getD}
 use Rattle.bits.specs.Bits.{bit, maskBelow}
 use Rattle.bits.specs.Bounded.{anyBelow}
-use Rattle.bits.proofs.Booleans.{and-left, and-right, and-both, bool-ext, decide}
+use Rattle.bits.proofs.Booleans.{and-left, and-right, and-both, bool-ext}
 use Rattle.bits.proofs.Bounds.{any-ext}
-use Rattle.bits.proofs.BitLaws.{bit-and, bit-zero, bit-above}
+use Rattle.bits.proofs.BitLaws.{bit-and}
 use Rattle.bits.proofs.Masks.{mask-lt, mask-ext, bit-mask-below, empty-none}
 use Rattle.policy.specs.declared.Tables.{Tables}
 use Rattle.policy.specs.Tables.{enabledBy, enables, personDeclared, folderDeclared}
-use Rattle.policy.specs.Rulebook.{littleEndian}
 use Rattle.policy.specs.History.{bitAt}
 use Rattle.policy.specs.Request.{Request, step, index, hasPlace, setOf}
 use Rattle.policy.specs.Rules.{did, done, leadsTo, pipelineStep}
 use Rattle.policy.proofs.Requests.{declared-person, step-declared, declared-place}
-use Rattle.pipeline.specs.Steps.{halfAt, wordAt, doneBy, leads, leadsAmong}
-
--- ---- bytes
-
--- the bits of little-endian bytes are those of the bytes
-little-bit : (l : List ℕ) → ((i : ℕ) → getD l i 0 < 256) → (s : ℕ) → bit (littleEndian l) s ≡ bit (getD l (s / 8) 0) (s % 8)
-unfolding littleEndian
-little-bit [] small s = bit-zero s ∙ sym (bit-zero (s % 8))
-little-bit (b ∷ l) small s =
-    bit-above 8 b (littleEndian l) s (small 0)
-    ∙ ⊎-elim
-    (λ y.
-    let i = ltb-true s 8 y in
-    let first : s / 8 ≡ 0 = omega arith in
-    let whole : s % 8 ≡ s = omega arith in
-    rw (y, first, whole))
-    (λ n.
-    let i = ltb-false s 8 n in
-    let next : s / 8 ≡ suc ((s - 8) / 8) = omega arith in
-    let rest : (s - 8) % 8 ≡ s % 8 = omega arith in
-    rw (n, next) (little-bit l (λ k. small (suc k)) (s - 8) ∙ ap (bit (getD l ((s - 8) / 8) 0)) rest))
-    (decide (ltb s 8))
-
-eightAt : List ℕ → ℕ → List ℕ
-eightAt h at =
-    getD h at 0
-    ∷ getD h (at + 1) 0
-    ∷ getD h (at + 2) 0
-    ∷ getD h (at + 3) 0
-    ∷ getD h (at + 4) 0
-    ∷ getD h (at + 5) 0
-    ∷ getD h (at + 6) 0
-    ∷ getD h (at + 7) 0
-    ∷ []
-
-word-little : (h : List ℕ) (at : ℕ) → wordAt h at ≡ littleEndian (eightAt h at)
-unfolding wordAt halfAt littleEndian eightAt
-word-little h at =
-    let five : getD h (at + 4 + 1) 0 ≡ getD h (at + 5) 0 = ap (λ (i : ℕ). getD h i 0) (omega arith) in
-    let six : getD h (at + 4 + 2) 0 ≡ getD h (at + 6) 0 = ap (λ (i : ℕ). getD h i 0) (omega arith) in
-    let seven : getD h (at + 4 + 3) 0 ≡ getD h (at + 7) 0 = ap (λ (i : ℕ). getD h i 0) (omega arith) in
-    omega arith
-
-eight-at : (h : List ℕ) (at j : ℕ) → j < 8 → getD (eightAt h at) j 0 ≡ getD h (at + j) 0
-unfolding eightAt
-eight-at h at zero l = ap (λ (i : ℕ). getD h i 0) (omega arith)
-eight-at h at (suc zero) l = refl
-eight-at h at (suc (suc zero)) l = refl
-eight-at h at (suc (suc (suc zero))) l = refl
-eight-at h at (suc (suc (suc (suc zero)))) l = refl
-eight-at h at (suc (suc (suc (suc (suc zero))))) l = refl
-eight-at h at (suc (suc (suc (suc (suc (suc zero)))))) l = refl
-eight-at h at (suc (suc (suc (suc (suc (suc (suc zero))))))) l = refl
-eight-at h at (suc (suc (suc (suc (suc (suc (suc (suc j)))))))) l = let z : ⊥ = omega arith in absurd z
-
-eight-small : (h : List ℕ) (at : ℕ) → ((i : ℕ) → getD h i 0 < 256) → (j : ℕ) → getD (eightAt h at) j 0 < 256
-eight-small h at small j =
-    ⊎-elim (λ y. rw (eight-at h at j (ltb-true j 8 y)) (small (at + j)))
-    (λ n. rw (past j (ltb-false j 8 n)) (omega arith))
-    (decide (ltb j 8))
-  where
-    past : (j : ℕ) → 8 ≤ j → getD (eightAt h at) j 0 ≡ 0
-    past j l = lib.ListN.List·getD-eq-default (eightAt h at) 0 {n = j} (unfold eightAt in l)
-
-word-bit : (h : List ℕ) (at s : ℕ) → ((i : ℕ) → getD h i 0 < 256) → s < 64
-    → bit (wordAt h at) s ≡ bit (getD h (at + s / 8) 0) (s % 8)
-word-bit h at s small l =
-    ap (λ (n : ℕ). bit n s) (word-little h at)
-    ∙ little-bit (eightAt h at) (eight-small h at small) s
-    ∙ ap (λ (b : ℕ). bit b (s % 8)) (eight-at h at (s / 8) (omega arith))
+use Rattle.history.specs.Words.{wordAt}
+use Rattle.history.proofs.WordLaws.{word-bit}
+use Rattle.pipeline.specs.Steps.{doneBy, leads, leadsAmong}
 
 -- ---- the steps done
 
 module _ (t : Tables) (h : List ℕ) (small : (i : ℕ) → getD h i 0 < 256) (o : ℕ) (known : folderDeclared t o ≡ true) where
   -- the bits at a step's place are those of its requests
   place-bit : (p s : ℕ) → s < 64 → bit (wordAt h (2560 + 128 * o + 8 * p)) s ≡ bitAt h (index (step s p o))
-  unfolding bitAt index
+  unfolding index
   place-bit p s l =
-      let byte : 2560 + 128 * o + 8 * p + s / 8 ≡ (20480 + 64 * (16 * o + p) + s) / 8 = omega arith in
-      let digit : s % 8 ≡ (20480 + 64 * (16 * o + p) + s) % 8 = omega arith in
-      word-bit h (2560 + 128 * o + 8 * p) s small l ∙ ap₂ (λ (i j : ℕ). bit (getD h i 0) j) byte digit
+      let same : 8 * (2560 + 128 * o + 8 * p) + s ≡ 20480 + 64 * (16 * o + p) + s = omega arith in
+      word-bit h (2560 + 128 * o + 8 * p) s small l ∙ ap (bitAt h) same
 
   did-bit : (p s : ℕ) → p < 16 → s < 64
       → bitAt h (index (step s p o)) && personDeclared t s ≡ did t (setOf h) (step s p o)

@@ -6,13 +6,7 @@ use lib.Dec.{eqb}
 use lib.Bits.{bitAnd}
 use lib.ListN.{getD}
 use Rattle.bits.specs.Bits.{bit}
-
--- the 32 bits of the four bytes from a place on, and the 64 bits of the eight bytes
-unfoldable pub halfAt : List ℕ → ℕ → ℕ
-halfAt h at = getD h at 0 + 256 * (getD h (at + 1) 0 + 256 * (getD h (at + 2) 0 + 256 * getD h (at + 3) 0))
-
-unfoldable pub wordAt : List ℕ → ℕ → ℕ
-wordAt h at = halfAt h at + 4294967296 * halfAt h (at + 4)
+use Rattle.history.specs.Words.{wordAt}
 
 -- some person of the set did step p on folder o
 unfoldable pub doneBy : List ℕ → ℕ → ℕ → ℕ → Bool

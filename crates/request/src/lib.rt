@@ -1,8 +1,9 @@
 // Request records (document 01, "Requests and calls"): the request at the front of some bytes.
 ghost use mathlib.Core.Path.{_≡_};
-ghost use Prim.Native.Nat.{_<_};
-ghost use Rattle.policy.specs.Request.{requestOf};
-ghost use Rattle.request.specs.Parsed.{asRequest, lengthOf, indexOf};
+ghost use Prim.Native.Nat.{_≤_};
+ghost use lib.ListN.{length, drop};
+ghost use Rattle.policy.specs.Request.{requestOf, step, three};
+ghost use Rattle.request.specs.Parsed.{asRequest, accessOf, lengthOf};
 
 // A request with its fields, or none: the kind is unknown or the record is cut.
 pub enum Parsed {
@@ -23,30 +24,45 @@ pub fn parse(bytes: &[u8]) -> Parsed
     }
     let kind = bytes[0];
     match kind {
-        16 => Parsed::Read {
-            person: bytes[1],
-            folder: bytes[2],
-        },
-        17 => Parsed::Write {
-            person: bytes[1],
-            folder: bytes[2],
-        },
+        16..=17 => parse_access(kind, bytes),
         18 => Parsed::Start {
             person: bytes[1],
             second: bytes[2],
         },
-        19 => {
-            if n < 4 {
-                return Parsed::Nothing;
-            }
-            Parsed::Step {
-                person: bytes[1],
-                step: bytes[2],
-                folder: bytes[3],
-            }
-        }
+        19 => parse_step(bytes),
         0..=15 => Parsed::Nothing,
         20..=255 => Parsed::Nothing,
+    }
+}
+
+// The read or the write whose record stands at the front of the bytes: kind 16 is a read.
+fn parse_access(kind: u8, bytes: &[u8]) -> Parsed
+    requires { ⌜ 3 ≤ length (now bytes) ⌝ }
+    ensures { λ r. ⌜ asRequest r ≡ accessOf kind (now (bytes .entry)) ⌝ }
+{
+    if kind == 16 {
+        return Parsed::Read {
+            person: bytes[1],
+            folder: bytes[2],
+        };
+    }
+    Parsed::Write {
+        person: bytes[1],
+        folder: bytes[2],
+    }
+}
+
+// The step whose record stands at the front of the bytes.
+fn parse_step(bytes: &[u8]) -> Parsed
+    ensures { λ r. ⌜ asRequest r ≡ three step (drop 1 (now (bytes .entry))) ⌝ }
+{
+    if bytes.len() < 4 {
+        return Parsed::Nothing;
+    }
+    Parsed::Step {
+        person: bytes[1],
+        step: bytes[2],
+        folder: bytes[3],
     }
 }
 
@@ -73,29 +89,5 @@ pub fn record_length(r: Parsed) -> usize
             step: _,
             folder: _,
         } => 4,
-    }
-}
-
-// A byte as an index.
-fn wide(x: u8) -> usize
-    ensures { λ r. ⌜ (r ≡ x) × (r < 256) ⌝ }
-{
-    x as usize
-}
-
-// The index of the request's bit in a history; 0 for none.
-pub fn index(r: Parsed) -> usize
-    ensures { λ n. ⌜ n ≡ indexOf r ⌝ }
-{
-    match r {
-        Parsed::Nothing => 0,
-        Parsed::Read { person, folder } => 128 * wide(person) + wide(folder),
-        Parsed::Write { person, folder } => 8192 + 128 * wide(person) + wide(folder),
-        Parsed::Start { person, second } => 16384 + 64 * wide(person) + wide(second),
-        Parsed::Step {
-            person,
-            step,
-            folder,
-        } => 20480 + 64 * (16 * wide(folder) + wide(step)) + wide(person),
     }
 }

@@ -1,14 +1,14 @@
 // The wall and the roles (document 01, "Four rules"), over the tables and the sets of what a person did.
 ghost use mathlib.Core.Path.{_≡_};
-ghost use mathlib.Core.Bool.{Bool, true, not, _&&_};
+ghost use mathlib.Core.Bool.{true};
 ghost use Prim.Native.Nat.{_<_};
-ghost use Rattle.bits.specs.Bounded.{_⇒_};
-ghost use Rattle.policy.specs.Tables.{folderDeclared, inForce};
+ghost use Rattle.policy.specs.Tables.{folderDeclared};
 ghost use Rattle.policy.specs.Rulebook.{given};
+ghost use Rattle.packed.specs.Packed.{tablesOf};
 ghost use Rattle.rules.specs.Sets.{isRival, wallBy, covers, rolesBy};
+use packed::Words;
 use policy::Firm;
 use policy::Role;
-use policy::Tables;
 
 // A byte as an index.
 fn wide(x: u8) -> usize
@@ -29,18 +29,19 @@ fn is_rival(e: Firm, firms: u64, f: usize, class: u8) -> bool
 }
 
 // Whether the wall permits a person who opened these firms an access to folder o.
-pub fn wall_permits(t: Tables, firms: u64, o: usize) -> bool
-    requires { ⌜ (given t ≡ true) × (folderDeclared t o ≡ true) ⌝ }
-    ensures { λ r. ⌜ r ≡ wallBy t firms o ⌝ }
+pub fn wall_permits(t: &Words, firms: u64, o: usize) -> bool
+    requires { ⌜ (given (tablesOf (now t)) ≡ true) × (folderDeclared (tablesOf (now t)) o ≡ true) ⌝ }
+    ensures { λ r. ⌜ r ≡ wallBy (tablesOf (now (t .entry))) firms o ⌝ }
 {
-    let e = t.folders[o];
+    let e = packed::folder(t, o);
     let firm = wide(e.firm);
     if bits::bit64(firms, firm) {
         return true;
     }
-    let class = t.firms[firm].class;
+    let own = packed::firm(t, firm);
+    let class = own.class;
     for f in 0..64 {
-        if is_rival(t.firms[f], firms, f, class) {
+        if is_rival(packed::firm(t, f), firms, f, class) {
             return false;
         }
     }
@@ -59,12 +60,12 @@ fn covers_all(e: Role, rights: u64) -> bool
 }
 
 // Whether some role holds the rights used and the new one.
-pub fn roles_permit(t: Tables, used: u64, right: usize) -> bool
-    ensures { λ r. ⌜ r ≡ rolesBy t used right ⌝ }
+pub fn roles_permit(t: &Words, used: u64, right: usize) -> bool
+    ensures { λ r. ⌜ r ≡ rolesBy (tablesOf (now (t .entry))) used right ⌝ }
 {
     let rights = bits::with_bit64(used, right);
     for k in 0..32 {
-        if covers_all(t.roles[k], rights) {
+        if covers_all(packed::role(t, k), rights) {
             return true;
         }
     }

@@ -6,32 +6,33 @@ ghost use lib.Dec.{eqb};
 ghost use lib.ListN.{length};
 ghost use Rattle.policy.specs.Request.{requestOf, setOf};
 ghost use Rattle.policy.specs.Calls.{judgeOver, recordedIf, answersDue};
+ghost use Rattle.packed.specs.Packed.{tablesOf};
 ghost use Rattle.request.specs.Parsed.{asRequest};
 ghost use Rattle.judging.specs.Judging.{Ready, parsedNumber};
 ghost use Rattle.running.specs.Running.{nextAfter, nextRecord, Turned, Finished};
-use policy::Tables;
+use packed::Words;
 use request::Parsed;
 
 // Judges a parsed request, and records it where it is granted.
-fn put_parsed(t: Tables, h: &mut [u8], parsed: Parsed) -> u8
-    requires { ⌜ Ready t (now h) ⌝ }
+fn put_parsed(t: &Words, h: &mut [u8], parsed: Parsed) -> u8
+    requires { ⌜ Ready (tablesOf (now t)) (now h) ⌝ }
     ensures { λ r. ⌜
-        (r ≡ parsedNumber t (setOf (now (h .entry))) parsed)
+        (r ≡ parsedNumber (tablesOf (now (t .entry))) (setOf (now (h .entry))) parsed)
         × (now (h .exit) ≡ recordedIf (eqb r 0) (now (h .entry)) (asRequest parsed))
         ⌝ }
 {
-    let number = judging::judge_parsed(t, h, parsed);
-    if number == judging::GRANTED {
-        history::set_bit(h, request::index(parsed));
+    let judged = judging::judge_parsed(t, h, parsed);
+    if judged.number == judging::GRANTED {
+        history::set_bit(h, judged.index);
     }
-    number
+    judged.number
 }
 
 // Judges the request at the front of the bytes, and records it where it is granted.
-pub fn put_ready(t: Tables, h: &mut [u8], request: &[u8]) -> u8
-    requires { ⌜ Ready t (now h) ⌝ }
+pub fn put_ready(t: &Words, h: &mut [u8], request: &[u8]) -> u8
+    requires { ⌜ Ready (tablesOf (now t)) (now h) ⌝ }
     ensures { λ r. ⌜
-        (r ≡ judgeOver t (setOf (now (h .entry))) (now (request .entry)))
+        (r ≡ judgeOver (tablesOf (now (t .entry))) (setOf (now (h .entry))) (now (request .entry)))
         × (now (h .exit) ≡ recordedIf (eqb r 0) (now (h .entry)) (requestOf (now (request .entry))))
         ⌝ }
 {
@@ -77,9 +78,9 @@ struct Turn {
 }
 
 // Puts the request at the front of the bytes.
-fn run_turn(t: Tables, h: &mut [u8], bytes: &[u8]) -> Turn
-    requires { ⌜ Ready t (now h) ⌝ }
-    ensures { λ r. ⌜ Turned t (now (h .entry)) (now (bytes .entry)) (r .number) (r .next) (now (h .exit)) ⌝ }
+fn run_turn(t: &Words, h: &mut [u8], bytes: &[u8]) -> Turn
+    requires { ⌜ Ready (tablesOf (now t)) (now h) ⌝ }
+    ensures { λ r. ⌜ Turned (tablesOf (now (t .entry))) (now (h .entry)) (now (bytes .entry)) (r .number) (r .next) (now (h .exit)) ⌝ }
 {
     let parsed = request::parse(bytes);
     let number = put_parsed(t, h, parsed);
@@ -106,10 +107,10 @@ pub struct Counts {
 }
 
 // Puts the requests one after another, each on the history that the one before it leaves, and writes their numbers.
-pub fn run_ready(t: Tables, h: &mut [u8], requests: &[u8], answers: &mut [u8]) -> Counts
-    requires { ⌜ Ready t (now h) × (answersDue (now requests) ≤ length (now answers)) ⌝ }
+pub fn run_ready(t: &Words, h: &mut [u8], requests: &[u8], answers: &mut [u8]) -> Counts
+    requires { ⌜ Ready (tablesOf (now t)) (now h) × (answersDue (now requests) ≤ length (now answers)) ⌝ }
     ensures { λ r. ⌜
-        Finished t (now (h .entry)) (now (requests .entry)) (now (answers .entry))
+        Finished (tablesOf (now (t .entry))) (now (h .entry)) (now (requests .entry)) (now (answers .entry))
         (r .granted) (r .refused) (now (h .exit)) (now (answers .exit))
         ⌝ }
 {

@@ -29,8 +29,7 @@ returns-2 : tie.Need-returns-2
 returns-2 c =
     let at-put = c .before .before in
     let at-if1 = at-put .before .before in
-    let same = at-if1 .before .before .load .ensures in
-    (
+    let same = at-if1 .before .before .load .ensures in (
       at-put .put .ensures .0 ∙ judge-loaded same (at-if1 .if1 .left) _ _,
       at-put .put .ensures .1 ∙ put-loaded same (at-if1 .if1 .left) _ _,
     )

@@ -5,6 +5,7 @@ use denote.Ref.{now}
 use Rattle.policy.specs.Checks.{ladder}
 use Rattle.policy.specs.Request.{Request, setOf}
 use Rattle.policy.specs.Calls.{requestChecks, judgeOver}
+use Rattle.packed.specs.Packed.{tablesOf}
 use Rattle.judging.specs.Judging.{parsedNumber}
 use borrow.Author.Needs.{needs}
 use Rattle.judging.proofs.judge_bytes.Statement.{statement}
@@ -25,8 +26,8 @@ unfolding judgeOver parsedNumber
 returns c =
     let start = c .before .before .before .before in
     let call-parse = c .before .parse in
-    c .judge-parsed .ensures
-    ∙ ap (λ (d : Option Request). ladder (requestChecks (start .args .t) (setOf (now (start .args .h))) d))
+    c .judge-parsed .ensures .0
+    ∙ ap (λ (d : Option Request). ladder (requestChecks (tablesOf (now (start .args .t))) (setOf (now (start .args .h))) d))
     (call-parse .ensures)
 
 pub judge-bytes-spec : {M : Type 1} → statement M

@@ -16,14 +16,15 @@ use Rattle.judging.proofs.JudgingLaws.{
   then-pipeline,
   step-number,
 }
+use Rattle.packed.specs.Packed.{tablesOf}
 use borrow.Author.Needs.{needs}
 use Rattle.judging.proofs.judge_step.Statement.{statement}
 use Rattle.judging.proofs.judge_step.Tie as tie
 use Rattle.judging.proofs.judge_step.Reads as reads
 use Rattle.judging.proofs.judge_step.Lts as lts
-use Rattle.bits.proofs.bit8.Reads as bit8-reads
 use Rattle.judging.proofs.are_declared.Reads as are-declared-reads
-use Rattle.judging.proofs.judge_access.Reads as judge-access-reads
+use Rattle.judging.proofs.judge_step_access.Reads as judge-step-access-reads
+use Rattle.packed.proofs.in_force.Reads as in-force-reads
 use Rattle.pipeline.proofs.permits.Reads as permits-reads
 
 returns : tie.Need-returns
@@ -38,108 +39,108 @@ returns-2 c =
     (not-declared _ _ (step _ _ _)
     (undeclared-step _ _ _ _ (sym (c .before .are-declared .ensures) ∙ not-true _ (c .if2 .taken))))
 
-add-judge-access : tie.Need-add-judge-access
-add-judge-access c = search needs
-
-judge-access-requires : tie.Need-judge-access-requires
-judge-access-requires c κs =
+judge-step-access-requires : tie.Need-judge-step-access-requires
+judge-step-access-requires c κs =
     let start = c .before .before .before .before in
+    let t = tablesOf (now (start .args .t)) in
     let are-declared = c .before .are-declared in
     let known =
-    known-both (personDeclared (start .args .t) (start .args .s)) (folderDeclared (start .args .t) (start .args .o))
+    known-both (personDeclared t (start .args .s)) (folderDeclared t (start .args .o))
     (are-declared .result) (are-declared .ensures) (c .if2 .left) in
-    (start .pre, known .0, known .1)
+    (start .pre, known .0, known .1, omega arith)
 
 returns-3 : tie.Need-returns-3
 returns-3 c =
     let start = c .before .before .before .before .before .before in
+    let t = tablesOf (now (start .args .t)) in
     let are-declared = c .before .before .before .are-declared in
     let if2 = c .before .before .if2 in
-    let judge-access = c .before .judge-access in
+    let judge-step-access = c .before .judge-step-access in
     let known =
-    known-both (personDeclared (start .args .t) (start .args .s)) (folderDeclared (start .args .t) (start .args .o))
+    known-both (personDeclared t (start .args .s)) (folderDeclared t (start .args .o))
     (are-declared .result) (are-declared .ensures) (if2 .left) in
-    let d = step-declared (start .args .t) (start .args .s) (start .args .p) (start .args .o) (known .0) (omega arith) (known .1) in
+    let d = step-declared t (start .args .s) (start .args .p) (start .args .o) (known .0) (omega arith) (known .1) in
     sym
-    (before-pipeline _ _ _ _ _ (judge-access .result) d (judge-access .ensures
-    ∙ step-number (start .args .t) (setOf (now (start .args .h))) (start .pre .tables) (start .args .s) (start .args .p)
+    (before-pipeline _ _ _ _ _ (judge-step-access .result) d (judge-step-access .ensures
+    ∙ step-number t (setOf (now (start .args .h))) (start .pre .tables) (start .args .s) (start .args .p)
     (start .args .o) d)
     (c .if3 .taken))
 
-bit8-requires : tie.Need-bit8-requires
-bit8-requires c κs = search needs
+in-force-requires : tie.Need-in-force-requires
+in-force-requires c κs = search needs
 
 returns-4 : tie.Need-returns-4
-unfolding inForce
 returns-4 c =
     let start = c .before .before .before .before .before .before .before .before in
+    let t = tablesOf (now (start .args .t)) in
     let are-declared = c .before .before .before .before .before .are-declared in
     let if2 = c .before .before .before .before .if2 in
-    let call-bit8 = c .before .bit8 in
-    let judge-access = c .before .before .before .judge-access in
+    let first-test = c .before .in-force in
+    let judge-step-access = c .before .before .before .judge-step-access in
     let if3 = c .before .before .if3 in
     let known =
-    known-both (personDeclared (start .args .t) (start .args .s)) (folderDeclared (start .args .t) (start .args .o))
+    known-both (personDeclared t (start .args .s)) (folderDeclared t (start .args .o))
     (are-declared .result) (are-declared .ensures) (if2 .left) in
-    let d = step-declared (start .args .t) (start .args .s) (start .args .p) (start .args .o) (known .0) (omega arith) (known .1) in
-    let off : inForce (start .args .t) 3 ≡ false = (sym (call-bit8 .ensures) ∙ not-true _ (c .if4 .taken)) in
+    let d = step-declared t (start .args .s) (start .args .p) (start .args .o) (known .0) (omega arith) (known .1) in
+    let off : inForce t 3 ≡ false = (sym (first-test .ensures) ∙ not-true _ (c .if4 .taken)) in
     sym
-    (then-pipeline (start .args .t) (setOf (now (start .args .h))) _ _ _ d (sym (step-number (start .args .t) (setOf (now
-    (start .args .h))) (start .pre .tables) (start .args .s) (start .args .p) (start .args .o) d) ∙ sym (judge-access .ensures)
+    (then-pipeline t (setOf (now (start .args .h))) _ _ _ d (sym (step-number t (setOf (now
+    (start .args .h))) (start .pre .tables) (start .args .s) (start .args .p) (start .args .o) d) ∙ sym (judge-step-access .ensures)
     ∙ if3 .left)
     ∙ rw off)
 
 permits-requires : tie.Need-permits-requires
 permits-requires c κs =
     let start = c .before .before .before .before .before .before .before .before in
+    let t = tablesOf (now (start .args .t)) in
     let are-declared = c .before .before .before .before .before .are-declared in
     let if2 = c .before .before .before .before .if2 in
     let known =
-    known-both (personDeclared (start .args .t) (start .args .s)) (folderDeclared (start .args .t) (start .args .o))
+    known-both (personDeclared t (start .args .s)) (folderDeclared t (start .args .o))
     (are-declared .result) (are-declared .ensures) (if2 .left) in
     (start .pre .size, known .1, omega arith)
 
 returns-5 : tie.Need-returns-5
-unfolding inForce
 returns-5 c =
     let start = c .before .before .before .before .before .before .before .before .before .before in
+    let t = tablesOf (now (start .args .t)) in
     let are-declared = c .before .before .before .before .before .before .before .are-declared in
     let if2 = c .before .before .before .before .before .before .if2 in
-    let call-bit8 = c .before .before .before .bit8 in
+    let first-test = c .before .before .before .in-force in
     let if4 = c .before .before .if4 in
-    let judge-access = c .before .before .before .before .before .judge-access in
+    let judge-step-access = c .before .before .before .before .before .judge-step-access in
     let if3 = c .before .before .before .before .if3 in
     let call-permits = c .before .permits in
     let known =
-    known-both (personDeclared (start .args .t) (start .args .s)) (folderDeclared (start .args .t) (start .args .o))
+    known-both (personDeclared t (start .args .s)) (folderDeclared t (start .args .o))
     (are-declared .result) (are-declared .ensures) (if2 .left) in
-    let d = step-declared (start .args .t) (start .args .s) (start .args .p) (start .args .o) (known .0) (omega arith) (known .1) in
-    let on : inForce (start .args .t) 3 ≡ true = (sym (call-bit8 .ensures) ∙ not-false _ (if4 .left)) in
+    let d = step-declared t (start .args .s) (start .args .p) (start .args .o) (known .0) (omega arith) (known .1) in
+    let on : inForce t 3 ≡ true = (sym (first-test .ensures) ∙ not-false _ (if4 .left)) in
     sym
-    (then-pipeline (start .args .t) (setOf (now (start .args .h))) _ _ _ d (sym (step-number (start .args .t) (setOf (now
-    (start .args .h))) (start .pre .tables) (start .args .s) (start .args .p) (start .args .o) d) ∙ sym (judge-access .ensures)
+    (then-pipeline t (setOf (now (start .args .h))) _ _ _ d (sym (step-number t (setOf (now
+    (start .args .h))) (start .pre .tables) (start .args .s) (start .args .p) (start .args .o) d) ∙ sym (judge-step-access .ensures)
     ∙ if3 .left)
     ∙ rw (on, ← call-permits .ensures, c .if5 .taken))
 
 returns-6 : tie.Need-returns-6
-unfolding inForce
 returns-6 c =
     let start = c .before .before .before .before .before .before .before .before .before .before in
+    let t = tablesOf (now (start .args .t)) in
     let are-declared = c .before .before .before .before .before .before .before .are-declared in
     let if2 = c .before .before .before .before .before .before .if2 in
-    let call-bit8 = c .before .before .before .bit8 in
+    let first-test = c .before .before .before .in-force in
     let if4 = c .before .before .if4 in
-    let judge-access = c .before .before .before .before .before .judge-access in
+    let judge-step-access = c .before .before .before .before .before .judge-step-access in
     let if3 = c .before .before .before .before .if3 in
     let call-permits = c .before .permits in
     let known =
-    known-both (personDeclared (start .args .t) (start .args .s)) (folderDeclared (start .args .t) (start .args .o))
+    known-both (personDeclared t (start .args .s)) (folderDeclared t (start .args .o))
     (are-declared .result) (are-declared .ensures) (if2 .left) in
-    let d = step-declared (start .args .t) (start .args .s) (start .args .p) (start .args .o) (known .0) (omega arith) (known .1) in
-    let on : inForce (start .args .t) 3 ≡ true = (sym (call-bit8 .ensures) ∙ not-false _ (if4 .left)) in
+    let d = step-declared t (start .args .s) (start .args .p) (start .args .o) (known .0) (omega arith) (known .1) in
+    let on : inForce t 3 ≡ true = (sym (first-test .ensures) ∙ not-false _ (if4 .left)) in
     sym
-    (then-pipeline (start .args .t) (setOf (now (start .args .h))) _ _ _ d (sym (step-number (start .args .t) (setOf (now
-    (start .args .h))) (start .pre .tables) (start .args .s) (start .args .p) (start .args .o) d) ∙ sym (judge-access .ensures)
+    (then-pipeline t (setOf (now (start .args .h))) _ _ _ d (sym (step-number t (setOf (now
+    (start .args .h))) (start .pre .tables) (start .args .s) (start .args .p) (start .args .o) d) ∙ sym (judge-step-access .ensures)
     ∙ if3 .left)
     ∙ rw (on, ← call-permits .ensures, c .if5 .left))
 
@@ -150,10 +151,9 @@ judge-step-spec =
     returns
     are-declared-requires
     returns-2
-    add-judge-access
-    judge-access-requires
+    judge-step-access-requires
     returns-3
-    bit8-requires
+    in-force-requires
     returns-4
     permits-requires
     returns-5

@@ -8,6 +8,7 @@ use Rattle.monitor.proofs.judge.Reads as reads
 use Rattle.monitor.proofs.judge.Lts as lts
 use Rattle.judging.proofs.judge_bytes.Reads as judge-bytes-reads
 use Rattle.monitor.proofs.checked.Reads as checked-reads
+use Rattle.packing.proofs.pack.Reads as pack-reads
 
 checked-requires : tie.Need-checked-requires
 checked-requires c κs = search needs
@@ -15,14 +16,22 @@ checked-requires c κs = search needs
 returns : tie.Need-returns
 returns c = judge-refused _ _ _ (c .before .checked .result) (c .before .checked .ensures) (c .if1 .taken)
 
+pack-requires : tie.Need-pack-requires
+pack-requires c κs = search needs
+
 judge-bytes-requires : tie.Need-judge-bytes-requires
-judge-bytes-requires c κs = passed-ready _ _ (sym (c .before .checked .ensures) ∙ c .if1 .left)
+judge-bytes-requires c κs =
+    let call-checked = c .before .before .before .checked in
+    let if1 = c .before .before .if1 in
+    rw (c .before .pack .ensures) (passed-ready _ _ (sym (call-checked .ensures) ∙ if1 .left))
 
 returns-2 : tie.Need-returns-2
 returns-2 c =
-    let call-checked = c .before .before .checked in
-    let if1 = c .before .if1 in
-    c .judge-bytes .ensures ∙ judge-ready _ _ _ (passed-ready _ _ (sym (call-checked .ensures) ∙ if1 .left))
+    let call-checked = c .before .before .before .before .checked in
+    let if1 = c .before .before .before .if1 in
+    rw (c .before .before .pack .ensures) at (c .judge-bytes .ensures)
+    ∙ judge-ready _ _ _ (passed-ready _ _ (sym (call-checked .ensures) ∙ if1 .left))
 
 pub judge-spec : {M : Type 1} → statement M
-judge-spec = tie.close (tie.spec checked-requires returns judge-bytes-requires returns-2)
+judge-spec =
+    tie.close (tie.spec checked-requires returns pack-requires judge-bytes-requires returns-2)

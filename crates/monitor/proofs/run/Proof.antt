@@ -9,6 +9,7 @@ use Rattle.monitor.proofs.run.Reads as reads
 use Rattle.monitor.proofs.run.Lts as lts
 use Rattle.monitor.proofs.checked.Reads as checked-reads
 use Rattle.monitor.proofs.no_run.Reads as no-run-reads
+use Rattle.packing.proofs.pack.Reads as pack-reads
 use Rattle.running.proofs.answers_due.Reads as answers-due-reads
 use Rattle.running.proofs.run_ready.Reads as run-ready-reads
 
@@ -42,15 +43,20 @@ returns-2 c =
     let if1 = c .before .before .before .if1 in
     let answers-due = c .before .before .answers-due in
     let if2 = c .before .if2 in
-    rw (c .no-run2 .ensures) (run-without-room _ _ _ _ (sym (call-checked .ensures) ∙ if1 .left) (rw (← answers-due .ensures) (if2 .taken)))
+    rw (c .no-run2 .ensures)
+    (run-without-room _ _ _ _ (sym (call-checked .ensures) ∙ if1 .left) (rw (← answers-due .ensures) (if2 .taken)))
+
+pack-requires : tie.Need-pack-requires
+pack-requires c κs = search needs
 
 run-ready-requires : tie.Need-run-ready-requires
 run-ready-requires c κs =
-    let call-checked = c .before .before .before .before .before .checked in
-    let if1 = c .before .before .before .before .if1 in
-    let answers-due = c .before .before .before .answers-due in
-    let if2 = c .before .before .if2 in
-    (passed-ready _ _ (sym (call-checked .ensures) ∙ if1 .left), rw (← answers-due .ensures) (if2 .left))
+    let call-checked = c .before .before .before .before .before .before .before .checked in
+    let if1 = c .before .before .before .before .before .before .if1 in
+    let answers-due = c .before .before .before .before .before .answers-due in
+    let if2 = c .before .before .before .before .if2 in
+    let ready = passed-ready _ _ (sym (call-checked .ensures) ∙ if1 .left) in
+    (rw (c .before .before .before .pack .ensures) ready, rw (← answers-due .ensures) (if2 .left))
 
 same-length-3 : tie.Need-same-length-3
 same-length-3 c = search needs
@@ -61,11 +67,11 @@ same-length-4 c = search needs
 returns-3 : tie.Need-returns-3
 returns-3 c =
     let run-ready = c .before .before .before .before .run-ready in
-    let call-checked = c .before .before .before .before .before .before .before .before .before .before .checked in
-    let if1 = c .before .before .before .before .before .before .before .before .before .if1 in
-    let answers-due = c .before .before .before .before .before .before .before .before .answers-due in
-    let if2 = c .before .before .before .before .before .before .before .if2 in
-    let done = run-ready .ensures in
+    let call-checked = c .before .before .before .before .before .before .before .before .before .before .before .before .checked in
+    let if1 = c .before .before .before .before .before .before .before .before .before .before .before .if1 in
+    let answers-due = c .before .before .before .before .before .before .before .before .before .before .answers-due in
+    let if2 = c .before .before .before .before .before .before .before .before .before .if2 in
+    let done = rw (c .before .before .before .before .before .before .before .before .pack .ensures) at (run-ready .ensures) in
     run-done _ _ _ _ (sym (call-checked .ensures) ∙ if1 .left) (rw (← answers-due .ensures) (if2 .left)) _ _ _ _
     (done .granted) (done .refused) (done .history) (done .answers)
 
@@ -81,6 +87,7 @@ run-spec =
     no-run-requires-2
     same-length-2
     returns-2
+    pack-requires
     run-ready-requires
     same-length-3
     same-length-4

@@ -1,87 +1,87 @@
--- `past::current_level` answers a person's current level: after o folders it is the first level, lowered by each folder below o that was
--- read.
-use Prim.Native.Nat.{ℕ, _-_, _≤_}
+-- `past::current_level` answers a person's current level: the first level, lowered by the folders read of the first 64 and then of the
+-- next 64, where the two words of the person's reads say which were read.
+use Prim.Native.Nat.{ℕ, _+_, _*_, _<_}
 use native.Mathlib.Omega.{arith}
-use mathlib.Core.Path.{_≡_, sym, ap, _∙_}
+use mathlib.Core.Path.{_≡_}
+use mathlib.Core.Bool.{true}
+use mathlib.Core.List.{List}
+use lib.ListN.{getD}
 use borrow.Author.Needs.{needs}
-use Rattle.bits.specs.Bounded.{foldBelow}
-use Rattle.bits.proofs.Bounds.{fold-start, fold-step}
-use Rattle.policy.specs.Tables.{personAt}
+use Rattle.packed.specs.Packed.{tablesOf}
+use Rattle.policy.specs.declared.Person.{Person}
+use Rattle.policy.specs.declared.Tables.{Tables}
+use Rattle.policy.specs.Tables.{personAt, personDeclared}
 use Rattle.policy.specs.Request.{setOf}
-use Rattle.policy.specs.Rules.{loweredBy, currentLevel}
+use Rattle.policy.specs.Rules.{currentLevel}
 use Rattle.policy.proofs.Requests.{person-below}
-use Rattle.past.proofs.Recorded.{lowered}
+use Rattle.history.specs.Words.{wordAt}
+use Rattle.past.specs.Turns.{levelOver}
+use Rattle.past.proofs.LevelLaws.{level-by-words}
 use Rattle.past.proofs.current_level.Statement.{statement}
 use Rattle.past.proofs.current_level.Tie as tie
 
-abbrev Inv-loop : tie.InvT-loop
-Inv-loop h s t level₀ o₀ level o = (o ≤ 128) × (level .0 ≡ foldBelow o (loweredBy t (setOf h) s) (personAt t s .level .0))
+-- the answer, of the entry and the two words that were read
+answer : (t : Tables) (h : List ℕ) (s : ℕ) → personDeclared t s ≡ true → ((i : ℕ) → getD h i 0 < 256)
+    → {e : Person} {first second low level : ℕ} → e ≡ personAt t s
+    → first ≡ wordAt h (16 * s) → low ≡ levelOver t first 0 64 (e .level .0)
+    → second ≡ wordAt h (16 * s + 8) → level ≡ levelOver t second 64 64 low → level ≡ currentLevel t (setOf h) s
+answer t h s person small entry f l g r = rw (r, l, g, f, entry) (level-by-words t h s person small)
 
-abbrev μ-loop : tie.MeasureT-loop
-μ-loop h s t level₀ o₀ level o = 128 - o
+person-requires : tie.Need-person-requires
+person-requires c κs =
+    let start = c .before in
+    person-below (tablesOf (start .args .t .now)) (start .args .s) (start .pre .2)
 
-mul-person : tie.Need-mul-person Inv-loop μ-loop
-mul-person c = omega (arith, person-below (c .before .args .t1) (c .before .args .s) (c .before .pre .2))
+mul-word-at : tie.Need-mul-word-at
+mul-word-at c =
+    let start = c .before .before .before in
+    omega (arith, person-below (tablesOf (start .args .t .now)) (start .args .s) (start .pre .2))
 
-element-copy-out-person : tie.Need-element-copy-out-person Inv-loop μ-loop
-element-copy-out-person c = person-below (c .before .args .t1) (c .before .args .s) (c .before .pre .2)
+word-at-requires : tie.Need-word-at-requires
+word-at-requires c κs =
+    let start = c .before .before .before in
+    omega (arith, person-below (tablesOf (start .args .t .now)) (start .args .s) (start .pre .2))
 
-loop-holds : tie.Need-loop-holds Inv-loop μ-loop
-loop-holds c = (search needs, sym (fold-start _ _))
+level-over-requires : tie.Need-level-over-requires
+level-over-requires c κs = search needs
 
-mul-folder : tie.Need-mul-folder Inv-loop μ-loop
-mul-folder c = search needs
+mul-word-at-2 : tie.Need-mul-word-at-2
+mul-word-at-2 c =
+    let start = c .before .before .before .before .before in
+    omega (arith, person-below (tablesOf (start .args .t .now)) (start .args .s) (start .pre .2))
 
-element-copy-out-folder : tie.Need-element-copy-out-folder Inv-loop μ-loop
-element-copy-out-folder c = search needs
+add-word-at : tie.Need-add-word-at
+add-word-at c =
+    let start = c .before .before .before .before .before in
+    omega (arith, person-below (tablesOf (start .args .t .now)) (start .args .s) (start .pre .2))
 
-level-after-requires : tie.Need-level-after-requires Inv-loop μ-loop
-level-after-requires c κs =
-    let start = c .before .before .before .before .before .before in
-    record {
-      size = start .pre .0;
-      person = person-below (start .args .t1) (start .args .s) (start .pre .2);
-      folder = omega arith;
-    }
+word-at-requires-2 : tie.Need-word-at-requires-2
+word-at-requires-2 c κs =
+    let start = c .before .before .before .before .before in
+    omega (arith, person-below (tablesOf (start .args .t .now)) (start .args .s) (start .pre .2))
 
-add-o : tie.Need-add-o Inv-loop μ-loop
-add-o c = search needs
+level-over-requires-2 : tie.Need-level-over-requires-2
+level-over-requires-2 c κs = search needs
 
-loop-less : tie.Need-loop-less Inv-loop μ-loop
-loop-less c = search needs
-
-loop-again : tie.Need-loop-again Inv-loop μ-loop
-loop-again c =
-    let looped = c .before .before .before in
-    let start = looped .before .before .before .before in
-    let args = start .args in (
-      search needs,
-      fold-step (looped .loop .o) (loweredBy (args .t1) (setOf (args .h .now)) (args .s)) _ (looped .loop .inv .1)
-          (c .level-after .ensures
-          ∙ lowered (args .t1) (args .h .now) (args .s) (start .pre .2) (looped .loop .o) (looped .loop .level .0) (omega arith)),
-    )
-
-returns : tie.Need-returns Inv-loop μ-loop
-unfolding currentLevel
+returns : tie.Need-returns
 returns c =
-    let args = c .before .before .before .before .before .args in
-    let all : c .before .loop .o ≡ 128 = omega arith in
-    c .before .loop .inv .1
-    ∙ ap (λ (n : ℕ). foldBelow n (loweredBy (args .t1) (setOf (args .h .now)) (args .s)) (personAt (args .t1) (args .s) .level .0)) all
+    let words = c .before .before .before .before .before .before in
+    let start = words .before in
+    let args = start .args in
+    answer (tablesOf (args .t .now)) (args .h .now) (args .s) (start .pre .2) (λ i. words .shared-slice-known .given i .fits)
+    (c .before .before .before .before .before .person .ensures) (c .before .before .before .word-at .ensures)
+    (c .before .before .level-over .ensures) (c .before .word-at2 .ensures) (c .level-over2 .ensures)
 
 pub current-level-spec : {M : Type 1} → statement M
 current-level-spec =
     tie.close
     (tie.spec
-    Inv-loop
-    μ-loop
-    mul-person
-    element-copy-out-person
-    loop-holds
-    mul-folder
-    element-copy-out-folder
-    level-after-requires
-    add-o
-    loop-less
-    loop-again
+    person-requires
+    mul-word-at
+    word-at-requires
+    level-over-requires
+    mul-word-at-2
+    add-word-at
+    word-at-requires-2
+    level-over-requires-2
     returns)

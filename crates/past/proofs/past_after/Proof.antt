@@ -2,11 +2,10 @@
 -- any other lowers the level if it was read, adds the rights, and opens its firm.
 use Prim.Native.Nat.{ℕ}
 use native.Mathlib.Nat.{mod-eq-of-lt}
-use mathlib.Core.Path.{_≡_, sym, ap, _∙_}
+use mathlib.Core.Path.{_≡_, refl, sym, ap, _∙_}
 use mathlib.Core.Bool.{Bool, true}
 use mathlib.Core.List.{List}
 use lib.Bits.{bitOr}
-use borrow.Author.Needs.{needs}
 use borrow.Author.Tests.{not-true, not-false}
 use Rattle.bits.specs.Bits.{withBit}
 use Rattle.policy.specs.declared.Folder.{Folder}
@@ -15,9 +14,18 @@ use Rattle.policy.specs.Request.{read, write, index}
 use Rattle.past.specs.declared.Past.{Past}
 use Rattle.bits.specs.Bits.{maskBelow}
 use Rattle.past.specs.Turns.{levelIf, stepAt, rightsOf, rightsOn, pastWith, pastAfter}
+use Rattle.past.proofs.TouchedLaws.{untouched-zero, touched-some}
 use Rattle.past.proofs.Gathered.{after-undeclared, after-zero, after-some}
+use borrow.Author.Needs.{needs}
 use Rattle.past.proofs.past_after.Statement.{statement}
 use Rattle.past.proofs.past_after.Tie as tie
+use Rattle.past.proofs.past_after.Reads as reads
+use Rattle.past.proofs.past_after.Lts as lts
+use Rattle.bits.proofs.with_bit64.Reads as with-bit64-reads
+use Rattle.past.proofs.is_untouched.Reads as is-untouched-reads
+use Rattle.past.proofs.level_if.Reads as level-if-reads
+use Rattle.past.proofs.rights_of.Reads as rights-of-reads
+use Rattle.past.proofs.steps_of.Reads as steps-of-reads
 
 module _ (e : Folder) (h : List ℕ) (s o : ℕ) where
   -- the rights, of the bits that were read
@@ -42,53 +50,35 @@ returns c =
     let undeclared = not-true (args .folder .declared) (c .if1 .taken) in
     sym (after-undeclared (args .folder) (args .h .now) (args .s) (args .o) (args .before) undeclared)
 
-mul-bit-within : tie.Need-mul-bit-within
-mul-bit-within c = search needs
-
-add-bit-within : tie.Need-add-bit-within
-add-bit-within c = search needs
-
-bit-within-requires : tie.Need-bit-within-requires
-bit-within-requires c κs = search needs
-
-mul-bit-within-2 : tie.Need-mul-bit-within-2
-mul-bit-within-2 c = search needs
-
-add-bit-within-2 : tie.Need-add-bit-within-2
-add-bit-within-2 c = search needs
-
-add-bit-within-3 : tie.Need-add-bit-within-3
-add-bit-within-3 c = search needs
-
-bit-within-requires-2 : tie.Need-bit-within-requires-2
-bit-within-requires-2 c κs = search needs
-
 steps-of-requires : tie.Need-steps-of-requires
 steps-of-requires c κs = search needs
+
+is-untouched-requires : tie.Need-is-untouched-requires
+is-untouched-requires c κs = search needs
+
+returns-2 : tie.Need-returns-2
+returns-2 c =
+    let start = c .before .before .before .before .before .before in
+    let args = start .args in
+    let steps = c .before .before .steps-of in
+    let declared = not-false (args .folder .declared) (c .before .before .before .if1 .left) in
+    let none = sym (c .before .is-untouched .ensures) ∙ c .if2 .taken in
+    let rights =
+    rights-here (args .folder) (args .h .now) (args .s) (args .o) (start .pre .1) (start .pre .2) (steps .ensures) refl in
+    sym
+    (after-zero (args .folder) (args .h .now) (args .s) (args .o) (args .before) declared
+    (sym rights ∙ untouched-zero (args .seen) (args .changed) (steps .result) (args .folder .kind) none))
+
+level-if-requires : tie.Need-level-if-requires
+level-if-requires c κs = search needs
 
 cast-rights-of : tie.Need-cast-rights-of
 cast-rights-of c = search needs
 
 rights-of-requires : tie.Need-rights-of-requires
 rights-of-requires c κs =
-    let start = c .before .before .before .before .before .before .before in
-    start .pre .kind (not-false (start .args .folder .declared) (c .before .before .before .before .if1 .left))
-
-returns-2 : tie.Need-returns-2
-unfolding index
-returns-2 c =
-    let tested = c .before .before .before .before .before .before in
-    let args = tested .before .before .before .args in
-    let declared = not-false (args .folder .declared) (tested .if1 .left) in
-    let rights =
-    rights-here (args .folder) (args .h .now) (args .s) (args .o) (c .before .before .before .before .before .bit-within .ensures)
-    (c .before .before .before .before .bit-within2 .ensures) (c .before .before .before .steps-of .ensures)
-    (c .before .rights-of .ensures) in
-    sym
-    (after-zero (args .folder) (args .h .now) (args .s) (args .o) (args .before) declared (sym rights ∙ c .if2 .taken))
-
-level-if-requires : tie.Need-level-if-requires
-level-if-requires c κs = search needs
+    let start = c .before .before .before .before .before .before .before .before .before .before in
+    start .pre .0 .kind (not-false (start .args .folder .declared) (c .before .before .before .before .before .before .before .if1 .left))
 
 cast-with-bit64 : tie.Need-cast-with-bit64
 cast-with-bit64 c = search needs
@@ -97,38 +87,32 @@ with-bit64-requires : tie.Need-with-bit64-requires
 with-bit64-requires c κs = search needs
 
 returns-3 : tie.Need-returns-3
-unfolding index
 returns-3 c =
-    let gathered = c .before .before .before .before .before .before .before in
-    let tested = gathered .before .before .before .before .before in
-    let start = tested .before .before .before in
+    let start = c .before .before .before .before .before .before .before .before .before .before .before .before .before .before in
     let args = start .args in
-    let declared = not-false (args .folder .declared) (tested .if1 .left) in
+    let gathered = c .before .before .before .before .before .before .before .before in
+    let declared = not-false (args .folder .declared) (gathered .before .before .before .if1 .left) in
+    let steps = gathered .before .before .steps-of in
+    let some = sym (gathered .before .is-untouched .ensures) ∙ gathered .if2 .left in
+    let rights-of = c .before .before .before .rights-of in
     some-rights (args .folder) (args .h .now) (args .s) (args .o) (args .before) declared
-    (rights-here (args .folder) (args .h .now) (args .s) (args .o) (gathered .before .before .before .before .bit-within .ensures)
-    (gathered .before .before .before .bit-within2 .ensures) (gathered .before .before .steps-of .ensures) (gathered .rights-of .ensures))
-    (c .before .before .before .before .before .before .if2 .left)
-    (gathered .before .before .before .before .bit-within .ensures)
-    (c .before .before .before .level-if .ensures)
-    (c .with-bit64 .ensures ∙ ap (withBit (args .before .firms)) (mod-eq-of-lt (start .pre .firm declared)))
+    (rights-here (args .folder) (args .h .now) (args .s) (args .o) (start .pre .1) (start .pre .2) (steps .ensures) (rights-of .ensures))
+    (λ zero. touched-some (args .seen) (args .changed) (steps .result) (args .folder .kind) some (sym (rights-of .ensures) ∙ zero))
+    (start .pre .1)
+    (c .before .before .before .before .before .level-if .ensures)
+    (c .with-bit64 .ensures ∙ ap (withBit (args .before .firms)) (mod-eq-of-lt (start .pre .0 .firm declared)))
 
 pub past-after-spec : {M : Type 1} → statement M
 past-after-spec =
     tie.close
     (tie.spec
     returns
-    mul-bit-within
-    add-bit-within
-    bit-within-requires
-    mul-bit-within-2
-    add-bit-within-2
-    add-bit-within-3
-    bit-within-requires-2
     steps-of-requires
-    cast-rights-of
-    rights-of-requires
+    is-untouched-requires
     returns-2
     level-if-requires
+    cast-rights-of
+    rights-of-requires
     cast-with-bit64
     with-bit64-requires
     returns-3)

@@ -1,8 +1,8 @@
 -- `steps_done` is the mask of steps that some of the persons did: before each turn it has those below the number reached, each by one
 -- word of the history.
-use Prim.Native.Nat.{ℕ, _≤_, _<_, _-_, _%_}
+use Prim.Native.Nat.{_≤_, _-_, _%_}
 use native.Mathlib.Omega.{arith}
-use mathlib.Core.Path.{_≡_, refl, sym, ap, _∙_}
+use mathlib.Core.Path.{_≡_, sym, _∙_}
 use borrow.Author.Needs.{needs}
 use Rattle.bits.specs.Bits.{maskBelow}
 use Rattle.bits.proofs.Masks.{mask-start, mask-step}
@@ -12,7 +12,7 @@ use Rattle.pipeline.proofs.steps_done.Tie as tie
 use Rattle.pipeline.proofs.steps_done.Reads as reads
 use Rattle.pipeline.proofs.steps_done.Lts as lts
 use Rattle.pipeline.proofs.with_step.Reads as with-step-reads
-use Rattle.pipeline.proofs.word_at.Reads as word-at-reads
+use Rattle.history.proofs.word_at.Reads as word-at-reads
 
 abbrev Inv-loop : tie.InvT-loop
 Inv-loop h persons o done₀ p₀ done p = (p ≤ 16) × (done ≡ maskBelow p (doneBy h persons o))

@@ -6,19 +6,21 @@ use mathlib.Core.Bool.{false}
 use borrow.Author.Needs.{needs}
 use Rattle.bits.specs.Bounded.{anyBelow}
 use Rattle.bits.proofs.Bounds.{any-start, some-any, any-none}
+use Rattle.packed.specs.Packed.{tablesOf}
 use Rattle.rules.specs.Sets.{coversAt, rolesBy}
 use Rattle.rules.proofs.roles_permit.Statement.{statement}
 use Rattle.rules.proofs.roles_permit.Tie as tie
 use Rattle.rules.proofs.roles_permit.Reads as reads
 use Rattle.rules.proofs.roles_permit.Lts as lts
 use Rattle.bits.proofs.with_bit64.Reads as with-bit64-reads
+use Rattle.packed.proofs.role.Reads as role-reads
 use Rattle.rules.proofs.covers_all.Reads as covers-all-reads
 
 abbrev Inv-loop : tie.InvT-loop
-Inv-loop used right t rights k₀ k = (k ≤ 32) × (anyBelow k (coversAt t rights) ≡ false)
+Inv-loop t used right rights k₀ k = (k ≤ 32) × (anyBelow k (coversAt (tablesOf t) rights) ≡ false)
 
 abbrev μ-loop : tie.MeasureT-loop
-μ-loop used right t rights k₀ k = 32 - k
+μ-loop t used right rights k₀ k = 32 - k
 
 with-bit64-requires : tie.Need-with-bit64-requires Inv-loop μ-loop
 with-bit64-requires c κs = search needs
@@ -26,11 +28,8 @@ with-bit64-requires c κs = search needs
 loop-holds : tie.Need-loop-holds Inv-loop μ-loop
 loop-holds c = (search needs, any-start _)
 
-mul-covers-all : tie.Need-mul-covers-all Inv-loop μ-loop
-mul-covers-all c = search needs
-
-element-copy-out-covers-all : tie.Need-element-copy-out-covers-all Inv-loop μ-loop
-element-copy-out-covers-all c = search needs
+role-requires : tie.Need-role-requires Inv-loop μ-loop
+role-requires c κs = search needs
 
 covers-all-requires : tie.Need-covers-all-requires Inv-loop μ-loop
 covers-all-requires c κs = search needs
@@ -40,7 +39,8 @@ unfolding rolesBy coversAt
 returns c =
     sym
     (some-any 32 _ (c .before .before .before .before .loop .k) (omega arith)
-    (rw (← c .before .before .before .before .before .with-bit64 .ensures) (sym (c .before .covers-all .ensures) ∙ c .if1 .taken)))
+    (rw (← c .before .before .before .before .before .with-bit64 .ensures, ← c .before .before .role .ensures)
+    (sym (c .before .covers-all .ensures) ∙ c .if1 .taken)))
 
 add-k : tie.Need-add-k Inv-loop μ-loop
 add-k c = search needs
@@ -52,7 +52,8 @@ loop-again : tie.Need-loop-again Inv-loop μ-loop
 unfolding coversAt
 loop-again c = (
   search needs,
-  any-none _ _ (c .before .before .before .before .loop .inv .1) (sym (c .before .covers-all .ensures) ∙ c .if1 .left),
+  any-none _ _ (c .before .before .before .before .loop .inv .1)
+      (rw (← c .before .before .role .ensures) (sym (c .before .covers-all .ensures) ∙ c .if1 .left)),
 )
 
 returns-2 : tie.Need-returns-2 Inv-loop μ-loop
@@ -69,8 +70,7 @@ roles-permit-spec =
     μ-loop
     with-bit64-requires
     loop-holds
-    mul-covers-all
-    element-copy-out-covers-all
+    role-requires
     covers-all-requires
     returns
     add-k

@@ -7,6 +7,7 @@ use lib.ListN.{length, length-set}
 use borrow.Rule.Slice.PartAt.{part-to-end}
 use borrow.Author.Needs.{needs}
 use Rattle.policy.specs.Calls.{answersDue}
+use Rattle.packed.specs.Packed.{tablesOf}
 use Rattle.running.proofs.Records.{next-at-within, next-at-further, due-at}
 use Rattle.running.proofs.Turns.{granted-one, Done, done-none, done-granted, done-due, done-more, done-all}
 use Rattle.running.proofs.run_ready.Statement.{statement}
@@ -15,7 +16,7 @@ use Rattle.running.proofs.run_ready.Tie as tie
 abbrev Inv-loop : tie.InvT-loop
 Inv-loop t h₀ requests answers₀ at₀ i₀ granted₀ h answers at i granted =
     (answersDue requests ≤ length answers₀) × (at ≤ length requests) × (i ≤ at) × (length answers ≡ length answers₀)
-    × Done t h₀ requests answers₀ at i granted h answers
+    × Done (tablesOf t) h₀ requests answers₀ at i granted h answers
 
 abbrev μ-loop : tie.MeasureT-loop
 μ-loop t h₀ requests answers₀ at₀ i₀ granted₀ h answers at i granted = length requests - at

@@ -1,0 +1,69 @@
+-- `declared_persons` is the set of the declared persons: before each turn it has those below the number reached.
+use Prim.Native.Nat.{_-_, _%_, _≤_}
+use native.Mathlib.Omega.{arith}
+use mathlib.Core.Path.{_≡_, sym, _∙_}
+use borrow.Author.Needs.{needs}
+use borrow.Author.Tests.{lt-ltb}
+use Rattle.bits.specs.Bits.{maskBelow}
+use Rattle.bits.proofs.Masks.{mask-start, mask-step}
+use Rattle.policy.specs.Tables.{personAt, personDeclared}
+use Rattle.packing.proofs.declared_persons.Statement.{statement}
+use Rattle.packing.proofs.declared_persons.Tie as tie
+use Rattle.packing.proofs.declared_persons.Reads as reads
+use Rattle.packing.proofs.declared_persons.Lts as lts
+use Rattle.packing.proofs.with_declared.Reads as with-declared-reads
+
+abbrev Inv-loop : tie.InvT-loop
+Inv-loop t set₀ s₀ set s = (s ≤ 64) × (set ≡ maskBelow s (personDeclared t))
+
+abbrev μ-loop : tie.MeasureT-loop
+μ-loop t set₀ s₀ set s = 64 - s
+
+loop-holds : tie.Need-loop-holds Inv-loop μ-loop
+loop-holds c = (search needs, sym (mask-start _))
+
+mul-with-declared : tie.Need-mul-with-declared Inv-loop μ-loop
+mul-with-declared c = search needs
+
+element-copy-out-with-declared : tie.Need-element-copy-out-with-declared Inv-loop μ-loop
+element-copy-out-with-declared c = search needs
+
+with-declared-requires : tie.Need-with-declared-requires Inv-loop μ-loop
+with-declared-requires c κs = search needs
+
+add-s : tie.Need-add-s Inv-loop μ-loop
+add-s c = search needs
+
+loop-less : tie.Need-loop-less Inv-loop μ-loop
+loop-less c = search needs
+
+loop-again : tie.Need-loop-again Inv-loop μ-loop
+unfolding personDeclared
+loop-again c =
+    let loop = c .before .before .loop in
+    let t = c .before .before .before .args .t1 in
+    let s = loop .s in
+    let own : s % 64 ≡ s = omega arith in
+    let entry : personDeclared t s ≡ personAt t s .declared = rw (lt-ltb s 64 (omega arith)) in
+    (search needs, mask-step s (personDeclared t) (loop .inv .1) (c .with-declared .ensures ∙ rw (own, entry)))
+
+returns : tie.Need-returns Inv-loop μ-loop
+returns c =
+    let loop = c .before .loop in
+    let all : loop .s ≡ 64 = omega arith in
+    rw all at (loop .inv .1)
+
+pub declared-persons-spec : {M : Type 1} → statement M
+declared-persons-spec =
+    tie.close
+    (tie.spec
+    Inv-loop
+    μ-loop
+    loop-holds
+    mul-with-declared
+    element-copy-out-with-declared
+    with-declared-requires
+    add-s
+    loop-less
+    loop-again
+    returns)

@@ -1,0 +1,157 @@
+// Packing the tables in one array of numbers (crate `packed`), part after part, from the lowest place on.
+ghost use mathlib.Core.Path.{_≡_};
+ghost use mathlib.Core.Bool.{cond};
+ghost use Prim.Native.Nat.{_<_, _%_};
+ghost use lib.ListN.{length};
+ghost use Rattle.bits.specs.Bits.{withBit, maskBelow};
+ghost use Rattle.policy.specs.Tables.{firmAt, personAt, folderAt, roleAt, enabledBy, personDeclared, roleDeclared};
+ghost use Rattle.packed.specs.Packed.{folderOf, firmOf, levelIn, tablesOf};
+ghost use Rattle.packing.specs.Filling.{Filled};
+use packed::Words;
+use policy::Firm;
+use policy::Folder;
+use policy::Person;
+use policy::Tables;
+
+// A byte as a word.
+fn wide(x: u8) -> u64
+    ensures { λ r. ⌜ (r ≡ x) × (r < 256) ⌝ }
+{
+    x as u64
+}
+
+// A number of 16 bits as a word.
+fn wide_level(x: u16) -> u64
+    ensures { λ r. ⌜ (r ≡ x) × (r < 65536) ⌝ }
+{
+    x as u64
+}
+
+// A mark as a word: 1 for a declared entry.
+fn mark(declared: bool) -> u64
+    ensures { λ r. ⌜ (r ≡ cond declared 1 0) × (r < 2) ⌝ }
+{
+    if declared { 1 } else { 0 }
+}
+
+// The word of a folder.
+fn folder_word(e: Folder) -> u64
+    ensures { λ r. ⌜ folderOf r ≡ e ⌝ }
+{
+    let level = e.level;
+    mark(e.declared) + 256 * wide(e.firm) + 65536 * wide(e.kind) + 16777216 * wide_level(level.0)
+}
+
+// The word of a person's level.
+fn level_word(e: Person) -> u64
+    ensures { λ r. ⌜ levelIn r ≡ e .level ⌝ }
+{
+    let level = e.level;
+    wide_level(level.0)
+}
+
+// The word of a firm.
+fn firm_word(e: Firm) -> u64
+    ensures { λ r. ⌜ firmOf r ≡ e ⌝ }
+{
+    mark(e.declared) + 256 * wide(e.class)
+}
+
+// The folders.
+fn put_folders(t: Tables, w: &mut Words)
+    requires { ⌜ length (now w) ≡ 307 ⌝ }
+    ensures { λ r. ⌜ Filled 0 128 (λ o x. folderOf x ≡ folderAt t o) (now (w .entry)) (now (w .exit)) ⌝ }
+{
+    for o in 0..128 {
+        w[o] = folder_word(t.folders[o]);
+    }
+}
+
+// The persons' levels.
+fn put_levels(t: Tables, w: &mut Words)
+    requires { ⌜ length (now w) ≡ 307 ⌝ }
+    ensures { λ r. ⌜ Filled 128 64 (λ s x. levelIn x ≡ personAt t s .level) (now (w .entry)) (now (w .exit)) ⌝ }
+{
+    for s in 0..64 {
+        w[128 + s] = level_word(t.persons[s]);
+    }
+}
+
+// The firms.
+fn put_firms(t: Tables, w: &mut Words)
+    requires { ⌜ length (now w) ≡ 307 ⌝ }
+    ensures { λ r. ⌜ Filled 192 64 (λ f x. firmOf x ≡ firmAt t f) (now (w .entry)) (now (w .exit)) ⌝ }
+{
+    for f in 0..64 {
+        w[192 + f] = firm_word(t.firms[f]);
+    }
+}
+
+// The rights of the roles.
+fn put_rights(t: Tables, w: &mut Words)
+    requires { ⌜ length (now w) ≡ 307 ⌝ }
+    ensures { λ r. ⌜ Filled 256 32 (λ k x. x ≡ roleAt t k .rights) (now (w .entry)) (now (w .exit)) ⌝ }
+{
+    for k in 0..32 {
+        w[256 + k] = t.roles[k].rights;
+    }
+}
+
+// The steps that each step enables.
+fn put_steps(t: Tables, w: &mut Words)
+    requires { ⌜ length (now w) ≡ 307 ⌝ }
+    ensures { λ r. ⌜ Filled 288 16 (λ p x. x % 65536 ≡ enabledBy t p) (now (w .entry)) (now (w .exit)) ⌝ }
+{
+    for p in 0..16 {
+        w[288 + p] = wide_level(t.steps[p]);
+    }
+}
+
+// The set, with number k where the entry is declared.
+fn with_declared(set: u64, declared: bool, k: usize) -> u64
+    ensures { λ r. ⌜ r ≡ cond declared (withBit set (k % 64)) set ⌝ }
+{
+    if declared {
+        bits::with_bit64(set, k)
+    } else {
+        set
+    }
+}
+
+// The set of the declared persons.
+fn declared_persons(t: Tables) -> u64
+    ensures { λ r. ⌜ r ≡ maskBelow 64 (personDeclared t) ⌝ }
+{
+    let mut set: u64 = 0;
+    for s in 0..64 {
+        set = with_declared(set, t.persons[s].declared, s);
+    }
+    set
+}
+
+// The set of the declared roles.
+fn declared_roles(t: Tables) -> u64
+    ensures { λ r. ⌜ r ≡ maskBelow 32 (roleDeclared t) ⌝ }
+{
+    let mut set: u64 = 0;
+    for k in 0..32 {
+        set = with_declared(set, t.roles[k].declared, k);
+    }
+    set
+}
+
+// Packs the tables.
+pub fn pack(t: Tables) -> Words
+    ensures { λ r. ⌜ tablesOf r ≡ t ⌝ }
+{
+    let mut w: [u64; 307] = [0; 307];
+    put_folders(t, &mut w);
+    put_levels(t, &mut w);
+    put_firms(t, &mut w);
+    put_rights(t, &mut w);
+    put_steps(t, &mut w);
+    w[304] = wide(t.mask);
+    w[305] = declared_persons(t);
+    w[306] = declared_roles(t);
+    w
+}
