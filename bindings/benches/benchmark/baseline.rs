@@ -89,15 +89,20 @@ fn past_of(t: &Tables, h: &[u8], s: usize) -> Past {
     past
 }
 
-/// The level after 64 folders, of which those in the set were read.
+/// The level after 64 folders, of which those in the set were read: the lowest
+/// is taken out of the set in each turn, rank and compartments are met apart.
 fn level_over(folders: &[Folder], read: u64, before: u16) -> u16 {
-    let mut level = before;
-    for (i, folder) in folders.iter().enumerate() {
-        if read >> i & 1 == 1 && folder.declared {
-            level = meet(level, folder.level);
+    let (mut rank, mut compartments) = (before >> 12, before & 0xfff);
+    let mut rest = read;
+    while rest != 0 {
+        let folder = &folders[rest.trailing_zeros() as usize];
+        if folder.declared {
+            rank = rank.min(folder.level >> 12);
+            compartments &= folder.level;
         }
+        rest &= rest - 1;
     }
-    level
+    rank << 12 | compartments
 }
 
 fn current_level(t: &Tables, h: &[u8], s: usize) -> u16 {

@@ -8,44 +8,41 @@ use reference::random::Random;
 use std::hint::black_box;
 use std::time::Instant;
 
-/// How many requests each side puts in all rounds of a workload together; the
-/// quickest round counts.
-const REQUESTS: usize = 2_000_000;
-
-/// At least and at most so many rounds.
-const ROUNDS: (usize, usize) = (9, 9_999);
+/// In each round each side runs every input of a workload once, in turns; the
+/// quickest run of an input counts.
+const ROUNDS: usize = 29;
 
 const DAY: usize = 2_300;
+const DAYS: usize = 30;
 const MONTH: usize = 70_000;
 
+/// So many inputs of so many requests each. There are as many days as make a
+/// month: a processor that meets the same day again and again learns it.
 struct Workload {
     name: &'static str,
-    mask: u8,
+    inputs: usize,
     requests: usize,
     dense: bool,
 }
 
-const fn workload(name: &'static str, mask: u8, requests: usize, dense: bool) -> Workload {
+const fn workload(name: &'static str, inputs: usize, requests: usize, dense: bool) -> Workload {
     Workload {
         name,
-        mask,
+        inputs,
         requests,
         dense,
     }
 }
 
-const WORKLOADS: [Workload; 10] = [
-    workload("day", 15, DAY, false),
-    workload("month", 15, MONTH, false),
-    workload("day, dense history", 15, DAY, true),
-    workload("month, dense history", 15, MONTH, true),
-    workload("day, wall", 1, DAY, false),
-    workload("day, low-water", 2, DAY, false),
-    workload("day, roles", 4, DAY, false),
-    workload("day, pipeline", 8, DAY, false),
-    workload("day, no rule", 0, DAY, false),
-    workload("one request", 15, 1, false),
+const WORKLOADS: [Workload; 4] = [
+    workload("day", DAYS, DAY, false),
+    workload("month", 1, MONTH, false),
+    workload("day, dense history", DAYS, DAY, true),
+    workload("month, dense history", 1, MONTH, true),
 ];
+
+/// All rules, and each rule alone: wall, low-water, roles, pipeline.
+const MASKS: [u8; 5] = [15, 1, 2, 4, 8];
 
 /// A book that declares every number.
 fn full_book(random: &mut Random, mask: u8) -> Vec<u8> {
@@ -115,35 +112,63 @@ fn timed(
     ((ran, history, answers), nanoseconds)
 }
 
-fn compare(workload: &Workload) {
-    let mut random = Random::new(1);
-    let book = full_book(&mut random, workload.mask);
-    let requests = requests(&mut random, workload.requests);
-    let first = first_history(&mut random, workload.dense);
+/// The bytes of one run: the book, the requests and the history before it.
+struct Input {
+    book: Vec<u8>,
+    requests: Vec<u8>,
+    first: Vec<u8>,
+}
+
+fn input(workload: &Workload, mask: u8, seed: usize) -> Input {
+    let mut random = Random::new(seed as u64);
+    Input {
+        book: full_book(&mut random, mask),
+        requests: requests(&mut random, workload.requests),
+        first: first_history(&mut random, workload.dense),
+    }
+}
+
+/// What both sides grant of an input, and the nanoseconds of the proved and of
+/// the plain run.
+fn both(input: &Input, count: usize) -> (usize, f64, f64) {
     let proved = |history: &mut [u8], answers: &mut [u8]| {
-        let ran = kweldabe::run(&book, history, &requests, answers).expect("short requests");
+        let ran = kweldabe::run(&input.book, history, &input.requests, answers);
+        let ran = ran.expect("short requests");
         (ran.number, ran.granted, ran.refused)
     };
-    let plain =
-        |history: &mut [u8], answers: &mut [u8]| baseline::run(&book, history, &requests, answers);
-    let (mut ours, mut theirs) = (f64::MAX, f64::MAX);
-    let mut granted = 0;
-    for _ in 0..(REQUESTS / workload.requests).clamp(ROUNDS.0, ROUNDS.1) {
-        let (left, nanoseconds) = timed(proved, &first, workload.requests);
-        let (plain_left, plain_nanoseconds) = timed(plain, &first, workload.requests);
-        assert!(left == plain_left, "{}: the two differ", workload.name);
-        assert_eq!(left.0 .0, 0);
-        granted = left.0 .1;
-        ours = ours.min(nanoseconds);
-        theirs = theirs.min(plain_nanoseconds);
+    let plain = |history: &mut [u8], answers: &mut [u8]| {
+        baseline::run(&input.book, history, &input.requests, answers)
+    };
+    let (left, ours) = timed(proved, &input.first, count);
+    let (plain_left, theirs) = timed(plain, &input.first, count);
+    assert!(left == plain_left, "the two differ");
+    assert_eq!(left.0 .0, 0);
+    (left.0 .1, ours, theirs)
+}
+
+fn compare(workload: &Workload, mask: u8) {
+    let mut granted = vec![0; workload.inputs];
+    let mut ours = vec![f64::MAX; workload.inputs];
+    let mut theirs = vec![f64::MAX; workload.inputs];
+    let inputs: Vec<Input> = (0..workload.inputs)
+        .map(|k| input(workload, mask, 1 + k))
+        .collect();
+    for _ in 0..ROUNDS {
+        for (k, input) in inputs.iter().enumerate() {
+            let (zeros, proved, plain) = both(input, workload.requests);
+            granted[k] = zeros;
+            ours[k] = proved.min(ours[k]);
+            theirs[k] = plain.min(theirs[k]);
+        }
     }
-    let count = workload.requests as f64;
+    let count = (workload.inputs * workload.requests) as f64;
+    let (ours, theirs): (f64, f64) = (ours.iter().sum(), theirs.iter().sum());
     println!(
         "| {} | {} | {} | {} | {:.1} | {:.1} | {:.2} |",
         workload.name,
-        workload.mask,
-        workload.requests,
-        granted,
+        mask,
+        count,
+        granted.iter().sum::<usize>(),
         ours / count,
         theirs / count,
         ours / theirs
@@ -154,6 +179,10 @@ fn main() {
     println!("| workload | mask | requests | granted | proved, ns | plain Rust, ns | ratio |");
     println!("|---|---|---|---|---|---|---|");
     for workload in &WORKLOADS {
-        compare(workload);
+        for mask in MASKS {
+            compare(workload, mask);
+        }
     }
+    compare(&workload("day", DAYS, DAY, false), 0);
+    compare(&workload("one request", DAYS, 1, false), 15);
 }

@@ -27,7 +27,7 @@ low-or a b = omega (arith, or-step a b)
 low-and : (a b : ℕ) → bitAnd a b % 2 ≡ min (a % 2) (b % 2)
 low-and a b = omega (arith, and-step a b)
 
-digit : (p : ℕ) → p < 2 → (p ≡ 0) ⊎ (p ≡ 1)
+pub digit : (p : ℕ) → p < 2 → (p ≡ 0) ⊎ (p ≡ 1)
 digit zero h = inl refl
 digit (suc zero) h = inr refl
 digit (suc (suc p)) h = absurd (omega arith)

@@ -2,3 +2,4 @@ pub mod Booleans
 pub mod Bounds
 pub mod BitLaws
 pub mod Masks
+pub mod LowestBit

@@ -1,5 +1,5 @@
 -- Bits of a number, bit 0 lowest. A set of small numbers is the number whose bits are its members.
-use Prim.Native.Nat.{ℕ, _/_, _%_, _^_}
+use Prim.Native.Nat.{ℕ, _-_, _/_, _%_, _^_}
 use mathlib.Core.Bool.{Bool, cond}
 use lib.Dec.{eqb}
 use lib.Bits.{bitOr}
@@ -12,6 +12,10 @@ bit n k = eqb (n / 2 ^ k % 2) 1
 -- n with bit k set: the set n with k in it
 unfoldable pub withBit : ℕ → ℕ → ℕ
 withBit n k = bitOr n (2 ^ k)
+
+-- n with bit k cleared: the set n without k in it
+unfoldable pub withoutBit : ℕ → ℕ → ℕ
+withoutBit n k = cond (bit n k) (n - 2 ^ k) n
 
 -- the set m, with k in it where p holds of k
 unfoldable pub withBitIf : (ℕ → Bool) → ℕ → ℕ → ℕ

@@ -1,4 +1,4 @@
--- "Some", "every", "one after another" and "the number of", over the numbers below a bound.
+-- "Some", "every", "one after another", "the number of" and "the lowest", over the numbers below a bound.
 use Prim.Native.Nat.{ℕ, zero, suc, _+_}
 use mathlib.Core.Bool.{Bool, true, false, cond, _&&_, _||_}
 
@@ -21,6 +21,11 @@ foldBelow (suc n) f a = f n (foldBelow n f a)
 unfoldable pub countBelow : ℕ → (ℕ → Bool) → ℕ
 countBelow zero p = 0
 countBelow (suc n) p = cond (p n) 1 0 + countBelow n p
+
+-- the lowest number below n of which p holds; n where there is none
+unfoldable pub lowestBelow : ℕ → (ℕ → Bool) → ℕ
+lowestBelow zero p = 0
+lowestBelow (suc n) p = cond (p 0) 0 (suc (lowestBelow n (λ k. p (suc k))))
 
 -- if a, then b
 infixr 25 _⇒_

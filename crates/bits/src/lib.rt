@@ -1,8 +1,8 @@
 // Bits of numbers, bit 0 lowest. The number of a bit is taken modulo the width, as a shift takes it, so each function is total.
 ghost use mathlib.Core.Path.{_≡_};
 ghost use Prim.Native.Nat.{_%_};
-ghost use Rattle.bits.specs.Bits.{bit, withBit};
-ghost use Rattle.bits.specs.Bounded.{countBelow};
+ghost use Rattle.bits.specs.Bits.{bit, withBit, withoutBit};
+ghost use Rattle.bits.specs.Bounded.{countBelow, lowestBelow};
 
 // Whether bit k of n is set.
 pub fn bit8(n: u8, k: usize) -> bool
@@ -51,4 +51,21 @@ pub fn count64(n: u64) -> u32
     ensures { λ r. ⌜ r ≡ countBelow 64 (bit n) ⌝ }
 {
     u64::count_ones(n)
+}
+
+// The number of the lowest bit of n that is set; 64 where none is.
+pub fn lowest64(n: u64) -> usize
+    ensures { λ r. ⌜ r ≡ lowestBelow 64 (bit n) ⌝ }
+{
+    u64::trailing_zeros(n) as usize
+}
+
+// n with the lowest of its set bits cleared: n - 1 has the bits below it set, and the bits above it as they are.
+pub fn without_lowest64(n: u64) -> u64
+    ensures { λ r. ⌜ r ≡ withoutBit n (lowestBelow 64 (bit n)) ⌝ }
+{
+    if n == 0 {
+        return 0;
+    }
+    n & (n - 1)
 }

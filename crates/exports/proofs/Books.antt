@@ -1,15 +1,13 @@
 -- What a call by a book comes to, once the book is refused or loaded. `l` is what loading returned, and `m` what the definition says.
 use Prim.Native.Nat.{ℕ}
-use mathlib.Core.Path.{_≡_, refl, sym, ap, _∙_}
+use mathlib.Core.Path.{_≡_, _∙_}
 use mathlib.Core.Logic.{_≢_}
-use mathlib.Core.Bool.{Bool, true, false, cond}
 use mathlib.Core.List.{List}
-use lib.Dec.{eqb}
 use borrow.Author.Tests.{eq-eqb, ne-eqb}
 use Rattle.policy.specs.declared.Loaded.{Loaded}
 use Rattle.policy.specs.declared.Ran.{Ran}
 use Rattle.policy.specs.declared.Standing.{Standing}
-use Rattle.policy.specs.Calls.{judgeNumber, putHistory, ran, runHistory, runAnswers, standing}
+use Rattle.policy.specs.Calls.{judgeNumber, putHistory, standing}
 use Rattle.monitor.specs.Refused.{noRun, noStanding, RunIs}
 use Rattle.exports.specs.Packed.{
   packedLoad,

@@ -1,13 +1,15 @@
 -- The number of a request, by the checks that its kind leaves open: a rule that passes every request of a kind drops out of the ladder,
 -- and the roles over the set of rights used are the roles of the definitions.
-use Prim.Native.Nat.{ℕ, _+_, _<_}
+use Prim.Native.Nat.{ℕ, _+_, _-_, _<_}
 use native.Mathlib.Omega.{arith}
 use mathlib.Core.Path.{_≡_, refl, sym, ap, _∙_}
 use mathlib.Core.Logic.{_≢_, _⊎_, inl, inr}
 use mathlib.Core.Bool.{Bool, true, false, cond, not, _&&_, _||_, false≢true}
-use mathlib.Core.List.{List, [], _∷_}
-use mathlib.Core.Option.{some}
-use borrow.Author.Tests.{not-false}
+use mathlib.Core.List.{List}
+use mathlib.Core.Option.{none, some}
+use lib.ListN.{length, take}
+use borrow.Rule.Slice.PartAt.{part-to-end}
+use borrow.Author.Tests.{not-true, not-false}
 use Rattle.bits.specs.Bits.{maskBelow}
 use Rattle.bits.specs.Bounded.{_⇒_}
 use Rattle.bits.proofs.Booleans.{and-left, and-right, and-both, false-intro, false-elim}
@@ -17,7 +19,7 @@ use Rattle.policy.specs.declared.Tables.{Tables}
 use Rattle.policy.specs.Checks.{ladder}
 use Rattle.policy.specs.Tables.{folderAt, personDeclared, folderDeclared, inForce}
 use Rattle.policy.specs.Rulebook.{given}
-use Rattle.policy.specs.Request.{Request, read, write, start, step, subject, index}
+use Rattle.policy.specs.Request.{Request, read, write, start, step, subject, requestOf}
 use Rattle.policy.specs.Rules.{
   declared,
   right,
@@ -30,16 +32,30 @@ use Rattle.policy.specs.Rules.{
   pipelineStep,
   pipeline,
 }
-use Rattle.policy.specs.Calls.{requestChecks}
+use Rattle.policy.specs.Calls.{requestChecks, judgeOver}
 use Rattle.policy.proofs.Requests.{declared-person, declared-step, declared-folder}
 use Rattle.past.specs.declared.Past.{Past}
 use Rattle.past.specs.Past.{pastOf}
 use Rattle.rules.specs.Sets.{wallBy, rolesBy}
 use Rattle.rules.proofs.SetLaws.{wall-by, roles-by}
 use Rattle.request.specs.declared.Parsed.{Parsed}
-use Rattle.request.specs.declared.Parsed.the-variants.{Read, Write, Start, Step}
-use Rattle.request.specs.Parsed.{indexOf}
-use Rattle.judging.specs.Judging.{numberOf, asksAccess, accessNumber, judged, parsedNumber}
+use Rattle.request.specs.declared.Parsed.the-variants.{Nothing, Access, Start, Step}
+use Rattle.request.specs.Parsed.{accessBy, asRequest, indexOf, nextAfter, nextRecord}
+use Rattle.judging.specs.Judging.{
+  numberOf,
+  asksPast,
+  asksLevel,
+  isFree,
+  accessRight,
+  accessNumber,
+  judged,
+  Answered,
+  AnsweredAt,
+}
+
+-- a part that is the whole
+pub whole-part : (h : List ℕ) → take (length h - 0) h ≡ h
+whole-part h = part-to-end h 0
 
 -- ---- a rule in force or not
 
@@ -90,23 +106,33 @@ module _ (t : Tables) (w l r : Bool) where
   unfolding numberOf ladder
   number-none a b c = rw (a, b, c)
 
--- where none of them is in force, none refuses
-none-in-force : (a b c : Bool) → a || b || c ≡ false → (a ≡ false) × (b ≡ false) × (c ≡ false)
-none-in-force true true true e = absurd (false≢true (sym e))
-none-in-force true true false e = absurd (false≢true (sym e))
-none-in-force true false true e = absurd (false≢true (sym e))
-none-in-force true false false e = absurd (false≢true (sym e))
-none-in-force false true true e = absurd (false≢true (sym e))
-none-in-force false true false e = absurd (false≢true (sym e))
-none-in-force false false true e = absurd (false≢true (sym e))
-none-in-force false false false e = (refl, refl, refl)
+-- low-water alone, where the wall permits and roles are not in force
+pub number-alone : (t : Tables) (l r : Bool) → inForce t 1 ≡ true → inForce t 2 ≡ false → numberOf t true l r ≡ cond l 0 15
+unfolding numberOf ladder
+number-alone t l r on off = rw (on, off, implies-true (inForce t 0))
 
-pub access-free : (t : Tables) (H : Request → Bool) (s o new : ℕ) (writes : Bool) → asksAccess t ≡ false
-    → accessNumber t H s o new writes ≡ 0
-unfolding asksAccess accessNumber
-access-free t H s o new writes off =
-    let (a, b, c) = none-in-force (inForce t 0) (inForce t 1) (inForce t 2) off in
-    number-none t _ _ _ (passes _ _ (inr a)) (passes _ _ (inr b)) (passes _ _ (inr c))
+-- without the wall and roles, low-water decides: a write by the levels, and another access is granted
+neither : (a b : Bool) → a || b ≡ false → (a ≡ false) × (b ≡ false)
+neither true b e = absurd (false≢true (sym e))
+neither false b e = (refl, e)
+
+module _ (t : Tables) (H : Request → Bool) (s o new : ℕ) (off : asksPast t ≡ false) where
+  level-decides : (writes : Bool)
+      → accessNumber t H s o new writes
+      ≡ cond (inForce t 1 ⇒ (writes ⇒ atMost 12 (folderAt t o .level .0) (currentLevel t H s))) 0 15
+  unfolding asksPast accessNumber numberOf ladder
+  level-decides writes = let (a, b) = neither (inForce t 0) (inForce t 2) off in rw (a, b)
+
+  pub unasked : (writes : Bool) → asksLevel t writes ≡ false → accessNumber t H s o new writes ≡ 0
+  unfolding asksLevel
+  unasked true n = level-decides true ∙ rw n
+  unasked false n = level-decides false ∙ rw (implies-true (inForce t 1))
+
+  pub asked : (writes : Bool) {e : Folder} → asksLevel t writes ≡ true → e ≡ folderAt t o
+      → accessNumber t H s o new writes ≡ cond (atMost 12 (e .level .0) (currentLevel t H s)) 0 15
+  unfolding asksLevel
+  asked true n same = level-decides true ∙ rw (n, same)
+  asked false n same = absurd (false≢true n)
 
 -- ---- a whole request
 
@@ -187,19 +213,17 @@ module _ (t : Tables) (H : Request → Bool) where
     unfolding pastOf
     start-past s u past e = rw e
 
-    pub read-number : (s o : ℕ) → declared t (read s o) ≡ true
-        → judged t H (read s o) ≡ accessNumber t H s o (folderAt t o .kind) false
-    unfolding accessNumber wall lowWater right pipeline subject
-    read-number s o d =
-        by-three (read s o) d refl ∙ ap (numberOf t (wallAccess t H s o) true) (sym (roles-by t H s ok (read s o) d refl))
-
-    pub write-number : (s o : ℕ) → declared t (write s o) ≡ true
-        → judged t H (write s o) ≡ accessNumber t H s o (16 + folderAt t o .kind) true
-    unfolding accessNumber wall lowWater right pipeline subject
-    write-number s o d =
+    pub access-number : (writes : Bool) (s o : ℕ) → personDeclared t s ≡ true → folderDeclared t o ≡ true
+        → judged t H (accessBy writes s o) ≡ accessNumber t H s o (accessRight writes (folderAt t o .kind)) writes
+    unfolding accessBy accessRight accessNumber wall lowWater right pipeline subject declared
+    access-number true s o p f =
+        let d = and-both _ _ p f in
         by-three (write s o) d refl
         ∙ ap (numberOf t (wallAccess t H s o) (atMost 12 (folderAt t o .level .0) (currentLevel t H s)))
         (sym (roles-by t H s ok (write s o) d refl))
+    access-number false s o p f =
+        let d = and-both _ _ p f in
+        by-three (read s o) d refl ∙ ap (numberOf t (wallAccess t H s o) true) (sym (roles-by t H s ok (read s o) d refl))
 
     pub start-number : (s u : ℕ) → declared t (start s u) ≡ true
         → judged t H (start s u)
@@ -215,36 +239,61 @@ module _ (t : Tables) (H : Request → Bool) where
     unfolding accessNumber wall lowWater right subject
     step-number s p o d = ap (numberOf t (wallAccess t H s o) true) (roles-by t H s ok (step s p o) d refl)
 
--- ---- a parsed record
+-- an access that no rule in force asks about
+pub free-access : (t : Tables) (H : Request → Bool) (writes : Bool) (s o : ℕ) → given t ≡ true → isFree t s o writes ≡ true
+    → judged t H (accessBy writes s o) ≡ 0
+unfolding isFree
+free-access t H writes s o ok free =
+    let unasked-by = and-left _ _ free in
+    let known = and-right (not (asksPast t) && not (asksLevel t writes)) _ free in
+    access-number t H ok writes s o (and-left _ _ known) (and-right (personDeclared t s) _ known)
+    ∙ unasked t H s o _ (not-true _ (and-left _ _ unasked-by)) writes (not-true _ (and-right (not (asksPast t)) _ unasked-by))
 
-module _ (t : Tables) (H : Request → Bool) (r : Parsed) where
-  pub parsed-read : (a b s o : ℕ) → r ≡ Read a b → s ≡ a → o ≡ b → judged t H (read s o) ≡ parsedNumber t H r
-  unfolding judged parsedNumber
-  parsed-read a b s o e p q = rw (e, p, q)
+-- ---- the request at the front of some bytes
 
-  pub parsed-write : (a b s o : ℕ) → r ≡ Write a b → s ≡ a → o ≡ b → judged t H (write s o) ≡ parsedNumber t H r
-  unfolding judged parsedNumber
-  parsed-write a b s o e p q = rw (e, p, q)
+-- an access of undeclared parties
+pub undeclared-access : (t : Tables) (H : Request → Bool) (writes : Bool) (s o : ℕ) → personDeclared t s && folderDeclared t o ≡ false
+    → judged t H (accessBy writes s o) ≡ 13
+unfolding accessBy declared
+undeclared-access t H true s o n = not-declared t H (write s o) n
+undeclared-access t H false s o n = not-declared t H (read s o) n
 
-  pub parsed-start : (a b s u : ℕ) → r ≡ Start a b → s ≡ a → u ≡ b → judged t H (start s u) ≡ parsedNumber t H r
-  unfolding judged parsedNumber
-  parsed-start a b s u e p q = rw (e, p, q)
+-- the request that the bytes hold, by what was parsed and the numbers read from it
+module _ (bytes : List ℕ) (p : Parsed) (parsed : asRequest p ≡ requestOf bytes) where
+  pub holds-none : p ≡ Nothing → requestOf bytes ≡ none
+  holds-none e = sym parsed ∙ rw e
 
-  pub parsed-step : (a b d s n o : ℕ) → r ≡ Step a b d → s ≡ a → n ≡ b → o ≡ d
-      → judged t H (step s n o) ≡ parsedNumber t H r
-  unfolding judged parsedNumber
-  parsed-step a b d s n o e p q k = rw (e, p, q, k)
+  pub holds-access : (writes : Bool) (a b s o : ℕ) → p ≡ Access writes a b → s ≡ a → o ≡ b
+      → requestOf bytes ≡ some (accessBy writes s o)
+  holds-access writes a b s o e f g = sym parsed ∙ rw (e, f, g)
 
--- the index of a parsed request, of its kind and numbers
-module _ (r : Parsed) where
-  pub index-read : (a b s o : ℕ) → r ≡ Read a b → s ≡ a → o ≡ b → index (read s o) ≡ indexOf r
-  index-read a b s o e f g = rw (e, f, g)
+  pub holds-start : (a b s u : ℕ) → p ≡ Start a b → s ≡ a → u ≡ b → requestOf bytes ≡ some (start s u)
+  holds-start a b s u e f g = sym parsed ∙ rw (e, f, g)
 
-  pub index-write : (a b s o : ℕ) → r ≡ Write a b → s ≡ a → o ≡ b → index (write s o) ≡ indexOf r
-  index-write a b s o e f g = rw (e, f, g)
+  pub holds-step : (a b d s n o : ℕ) → p ≡ Step a b d → s ≡ a → n ≡ b → o ≡ d → requestOf bytes ≡ some (step s n o)
+  holds-step a b d s n o e f g i = sym parsed ∙ rw (e, f, g, i)
 
-  pub index-start : (a b s u : ℕ) → r ≡ Start a b → s ≡ a → u ≡ b → index (start s u) ≡ indexOf r
-  index-start a b s u e f g = rw (e, f, g)
+module _ (t : Tables) (H : Request → Bool) (bytes : List ℕ) where
+  -- what is answered for the request that the bytes hold is answered for the bytes
+  pub judged-bytes : (r : Request) → requestOf bytes ≡ some r → judged t H r ≡ judgeOver t H bytes
+  unfolding judged judgeOver
+  judged-bytes r e = rw e
 
-  pub index-step : (a b d s n o : ℕ) → r ≡ Step a b d → s ≡ a → n ≡ b → o ≡ d → index (step s n o) ≡ indexOf r
-  index-step a b d s n o e f g i = rw (e, f, g, i)
+  pub answered-bytes : (r : Request) {number place next : ℕ} → requestOf bytes ≡ some r → Answered t H r number place next
+      → AnsweredAt t H bytes number place next
+  unfolding indexOf nextRecord nextAfter
+  answered-bytes r e answered =
+      record {
+        judgedAs = answered .judgedAs ∙ judged-bytes r e;
+        bit = answered .bit ∙ rw e;
+        onward = answered .onward ∙ rw e;
+      }
+
+  -- bytes that hold none
+  pub cut-bytes : requestOf bytes ≡ none → judgeOver t H bytes ≡ 12
+  unfolding judgeOver requestChecks ladder
+  cut-bytes e = rw e
+
+  pub cut-answered : requestOf bytes ≡ none → AnsweredAt t H bytes 12 0 (length bytes)
+  unfolding indexOf nextRecord nextAfter
+  cut-answered e = record { judgedAs = sym (cut-bytes e); bit = rw e; onward = rw e }

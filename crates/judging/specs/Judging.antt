@@ -1,7 +1,7 @@
 -- What the functions of this crate compute: the number of a request by the checks 13 to 17, and its first part for accesses.
-use Prim.Native.Nat.{ℕ}
+use Prim.Native.Nat.{ℕ, _+_}
 use mathlib.Core.Path.{_≡_}
-use mathlib.Core.Bool.{Bool, true, _||_}
+use mathlib.Core.Bool.{Bool, true, cond, not, _&&_, _||_}
 use mathlib.Core.List.{List, [], _∷_}
 use mathlib.Core.Option.{some}
 use lib.ListN.{length}
@@ -10,14 +10,13 @@ use Rattle.bits.specs.Bounded.{_⇒_}
 use Rattle.level.specs.Levels.{atMost}
 use Rattle.policy.specs.declared.Tables.{Tables}
 use Rattle.policy.specs.Checks.{_else_, ladder}
-use Rattle.policy.specs.Tables.{folderAt, inForce}
+use Rattle.policy.specs.Tables.{folderAt, personDeclared, folderDeclared, inForce}
 use Rattle.policy.specs.Rulebook.{given}
 use Rattle.policy.specs.History.{historyBytes}
-use Rattle.policy.specs.Request.{Request}
+use Rattle.policy.specs.Request.{Request, index, requestOf, recordLength}
 use Rattle.policy.specs.Rules.{currentLevel, used, wallAccess}
-use Rattle.policy.specs.Calls.{requestChecks}
-use Rattle.request.specs.declared.Parsed.{Parsed}
-use Rattle.request.specs.Parsed.{asRequest}
+use Rattle.policy.specs.Calls.{requestChecks, judgeOver}
+use Rattle.request.specs.Parsed.{indexOf, nextRecord}
 use Rattle.rules.specs.Sets.{rolesBy}
 
 -- what the calls have checked: tables that a load gives, and a history of the right length
@@ -30,9 +29,21 @@ unfoldable pub numberOf : Tables → Bool → Bool → Bool → ℕ
 numberOf t wall level roles =
     ladder (((inForce t 0 ⇒ wall) else 14) ∷ ((inForce t 1 ⇒ level) else 15) ∷ ((inForce t 2 ⇒ roles) else 16) ∷ [])
 
--- one of these three is in force
-unfoldable pub asksAccess : Tables → Bool
-asksAccess t = inForce t 0 || inForce t 1 || inForce t 2
+-- the wall or roles are in force
+unfoldable pub asksPast : Tables → Bool
+asksPast t = inForce t 0 || inForce t 2
+
+-- low-water asks about an access: about a write, if it is in force
+unfoldable pub asksLevel : Tables → Bool → Bool
+asksLevel t writes = writes && inForce t 1
+
+-- an access by person s to folder o is granted with no look at what the person did
+unfoldable pub isFree : Tables → ℕ → ℕ → Bool → Bool
+isFree t s o writes = (not (asksPast t) && not (asksLevel t writes)) && (personDeclared t s && folderDeclared t o)
+
+-- the right of a write to a folder of a kind, or of a read
+unfoldable pub accessRight : Bool → ℕ → ℕ
+accessRight writes kind = cond writes (16 + kind) kind
 
 -- these three for an access by person s to folder o that uses a right, and is a write or not
 unfoldable pub accessNumber : Tables → (Request → Bool) → ℕ → ℕ → ℕ → Bool → ℕ
@@ -44,6 +55,14 @@ accessNumber t H s o right write =
 unfoldable pub judged : Tables → (Request → Bool) → Request → ℕ
 judged t H r = ladder (requestChecks t H (some r))
 
--- the number of a parsed record
-unfoldable pub parsedNumber : Tables → (Request → Bool) → Parsed → ℕ
-parsedNumber t H r = ladder (requestChecks t H (asRequest r))
+-- what is answered for a request: its number, the index of its bit, and how far on the next record stands
+pub record Answered (t : Tables) (H : Request → Bool) (r : Request) (number place next : ℕ) : Type 0 where
+  pub judgedAs : number ≡ judged t H r
+  pub bit : place ≡ index r
+  pub onward : next ≡ recordLength r
+
+-- and for the request at the front of some bytes
+pub record AnsweredAt (t : Tables) (H : Request → Bool) (bytes : List ℕ) (number place next : ℕ) : Type 0 where
+  pub judgedAs : number ≡ judgeOver t H bytes
+  pub bit : place ≡ indexOf (requestOf bytes)
+  pub onward : next ≡ nextRecord bytes

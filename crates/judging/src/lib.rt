@@ -1,6 +1,6 @@
 // Judging one request (document 01, "Requests and calls"), on tables that a load gives and a history of 18,944 bytes: the checks 12 to 17.
 ghost use mathlib.Core.Path.{_≡_};
-ghost use mathlib.Core.Bool.{Bool, true, false, _&&_};
+ghost use mathlib.Core.Bool.{true, false, cond, _&&_};
 ghost use Prim.Native.Nat.{_+_, _<_};
 ghost use lib.ListN.{length};
 ghost use Rattle.bits.specs.Bits.{maskBelow};
@@ -9,13 +9,14 @@ ghost use Rattle.level.specs.Levels.{atMost};
 ghost use Rattle.policy.specs.Tables.{folderAt, personDeclared, folderDeclared, inForce};
 ghost use Rattle.policy.specs.Rulebook.{given};
 ghost use Rattle.policy.specs.History.{historyBytes};
-ghost use Rattle.policy.specs.Request.{read, write, start, step, index, setOf};
-ghost use Rattle.policy.specs.Rules.{currentLevel, used, wallAccess};
+ghost use Rattle.policy.specs.Request.{start, step, setOf};
+ghost use Rattle.policy.specs.Rules.{currentLevel};
 ghost use Rattle.policy.specs.Calls.{judgeOver};
 ghost use Rattle.packed.specs.Packed.{tablesOf};
-ghost use Rattle.request.specs.Parsed.{indexOf};
+ghost use Rattle.request.specs.Parsed.{accessBy};
 ghost use Rattle.rules.specs.Sets.{wallBy, rolesBy};
-ghost use Rattle.judging.specs.Judging.{Ready, numberOf, asksAccess, accessNumber, judged, parsedNumber};
+ghost use Rattle.judging.specs.Judging.{Ready, numberOf, asksPast, asksLevel, isFree, accessRight, accessNumber, judged};
+ghost use Rattle.judging.specs.Judging.{Answered, AnsweredAt};
 use level::Level;
 use packed::Words;
 use past::Past;
@@ -83,45 +84,48 @@ fn judge_past(t: &Words, did: Past, o: usize, right: usize, write: bool) -> u8
     GRANTED
 }
 
-// Wall, low-water and roles for an access by person s to folder o. What the person did is gathered once, and only if a rule in force asks.
-fn judge_access(t: &Words, h: &[u8], s: usize, o: usize, right: usize, write: bool) -> u8
+// Wall, low-water and roles for an access by person s to folder o, by what the person did, which is gathered in one pass.
+fn judge_by_past(t: &Words, h: &[u8], s: usize, o: usize, right: usize, write: bool) -> u8
     requires { ⌜
         Ready (tablesOf (now t)) (now h) × (personDeclared (tablesOf (now t)) s ≡ true)
         × (folderDeclared (tablesOf (now t)) o ≡ true)
         ⌝ }
     ensures { λ r. ⌜ r ≡ accessNumber (tablesOf (now (t .entry))) (setOf (now (h .entry))) s o right write ⌝ }
 {
-    if packed::in_force(t, 0) {
-        return judge_past(t, past::past_of(t, h, s), o, right, write);
-    }
-    if packed::in_force(t, 2) {
-        return judge_past(t, past::past_of(t, h, s), o, right, write);
-    }
-    if !packed::in_force(t, 1) {
-        return GRANTED;
-    }
-    if !write {
-        return GRANTED;
-    }
-    let folder = packed::folder(t, o);
-    let other = folder.level;
-    if other.compare(past::current_level(t, h, s)) {
+    judge_past(t, past::past_of(t, h, s), o, right, write)
+}
+
+// Low-water alone: whether a level is at most the current level of person s.
+fn judge_level(t: &Words, h: &[u8], s: usize, level: Level) -> u8
+    requires { ⌜ Ready (tablesOf (now t)) (now h) × (personDeclared (tablesOf (now t)) s ≡ true) ⌝ }
+    ensures { λ r. ⌜
+        r ≡ cond (atMost 12 (level .0) (currentLevel (tablesOf (now (t .entry))) (setOf (now (h .entry))) s)) 0 15
+        ⌝ }
+{
+    if level.compare(past::current_level(t, h, s)) {
         return GRANTED;
     }
     LOW_WATER
 }
 
-// Whether the wall, low-water or roles are in force. If none is, an access is granted with no look at what the person did.
-fn asks_access(t: &Words) -> bool
-    ensures { λ r. ⌜ r ≡ asksAccess (tablesOf (now (t .entry))) ⌝ }
+// Whether the wall or roles are in force. Only these two ask for all that a person did.
+fn asks_past(t: &Words) -> bool
+    ensures { λ r. ⌜ r ≡ asksPast (tablesOf (now (t .entry))) ⌝ }
 {
     if packed::in_force(t, 0) {
         return true;
     }
-    if packed::in_force(t, 1) {
-        return true;
-    }
     packed::in_force(t, 2)
+}
+
+// Whether low-water asks about an access: about a write, if it is in force.
+fn asks_level(t: &Words, write: bool) -> bool
+    ensures { λ r. ⌜ r ≡ asksLevel (tablesOf (now (t .entry))) write ⌝ }
+{
+    if write {
+        return packed::in_force(t, 1);
+    }
+    false
 }
 
 // Whether person s and folder o are declared.
@@ -134,34 +138,34 @@ fn are_declared(t: &Words, s: usize, o: usize) -> bool
     false
 }
 
-// A read of folder o by person s.
-fn judge_read(t: &Words, h: &[u8], s: usize, o: usize) -> u8
-    requires { ⌜ Ready (tablesOf (now t)) (now h) ⌝ }
-    ensures { λ r. ⌜ r ≡ judged (tablesOf (now (t .entry))) (setOf (now (h .entry))) (read s o) ⌝ }
+// The right that a read of a folder of a kind uses, or a write.
+fn access_right(write: bool, kind: u8) -> usize
+    ensures { λ r. ⌜ r ≡ accessRight write kind ⌝ }
 {
-    if !are_declared(t, s, o) {
-        return UNDECLARED;
+    if write {
+        return 16 + wide(kind);
     }
-    if !asks_access(t) {
-        return GRANTED;
-    }
-    let folder = packed::folder(t, o);
-    judge_access(t, h, s, o, wide(folder.kind), false)
+    wide(kind)
 }
 
-// A write to folder o by person s.
-fn judge_write(t: &Words, h: &[u8], s: usize, o: usize) -> u8
+// A read of folder o by person s, or a write. The history is lent on as a part, which costs less than as a whole: its place need not be
+// in memory.
+fn judge_access(t: &Words, h: &[u8], s: usize, o: usize, write: bool) -> u8
     requires { ⌜ Ready (tablesOf (now t)) (now h) ⌝ }
-    ensures { λ r. ⌜ r ≡ judged (tablesOf (now (t .entry))) (setOf (now (h .entry))) (write s o) ⌝ }
+    ensures { λ r. ⌜ r ≡ judged (tablesOf (now (t .entry))) (setOf (now (h .entry))) (accessBy write s o) ⌝ }
 {
     if !are_declared(t, s, o) {
         return UNDECLARED;
     }
-    if !asks_access(t) {
+    let folder = packed::folder(t, o);
+    if asks_past(t) {
+        return judge_by_past(t, &h[0..], s, o, access_right(write, folder.kind), write);
+    }
+    if !asks_level(t, write) {
         return GRANTED;
     }
-    let folder = packed::folder(t, o);
-    judge_access(t, h, s, o, 16 + wide(folder.kind), true)
+    let level = folder.level;
+    judge_level(t, &h[0..], s, level)
 }
 
 // Wall, low-water and roles for step p on folder o by person s.
@@ -172,13 +176,13 @@ fn judge_step_access(t: &Words, h: &[u8], s: usize, p: usize, o: usize) -> u8
         ⌝ }
     ensures { λ r. ⌜ r ≡ accessNumber (tablesOf (now (t .entry))) (setOf (now (h .entry))) s o (48 + p) false ⌝ }
 {
-    if asks_access(t) {
-        return judge_access(t, h, s, o, 48 + p, false);
+    if asks_past(t) {
+        return judge_by_past(t, h, s, o, 48 + p, false);
     }
     GRANTED
 }
 
-// Step p on folder o by person s.
+// Step p on folder o by person s. The history is lent on as a part, as in `judge_access`.
 fn judge_step(t: &Words, h: &[u8], s: usize, p: usize, o: usize) -> u8
     requires { ⌜ Ready (tablesOf (now t)) (now h) ⌝ }
     ensures { λ r. ⌜ r ≡ judged (tablesOf (now (t .entry))) (setOf (now (h .entry))) (step s p o) ⌝ }
@@ -189,14 +193,14 @@ fn judge_step(t: &Words, h: &[u8], s: usize, p: usize, o: usize) -> u8
     if !are_declared(t, s, o) {
         return UNDECLARED;
     }
-    let n = judge_step_access(t, h, s, p, o);
+    let n = judge_step_access(t, &h[0..], s, p, o);
     if n != GRANTED {
         return n;
     }
     if !packed::in_force(t, 3) {
         return GRANTED;
     }
-    if pipeline::permits(t, h, p, o) {
+    if pipeline::permits(t, &h[0..], p, o) {
         return GRANTED;
     }
     PIPELINE
@@ -236,7 +240,7 @@ fn judge_start_past(t: &Words, h: &[u8], did: Past, u: usize) -> u8
     ROLES
 }
 
-// A start of person u by person s.
+// A start of person u by person s. The history is lent on as a part, as in `judge_access`.
 fn judge_start(t: &Words, h: &[u8], s: usize, u: usize) -> u8
     requires { ⌜ Ready (tablesOf (now t)) (now h) ⌝ }
     ensures { λ r. ⌜ r ≡ judged (tablesOf (now (t .entry))) (setOf (now (h .entry))) (start s u) ⌝ }
@@ -245,91 +249,107 @@ fn judge_start(t: &Words, h: &[u8], s: usize, u: usize) -> u8
         return UNDECLARED;
     }
     if packed::in_force(t, 2) {
-        return judge_start_past(t, h, past::past_of(t, h, s), u);
+        return judge_start_past(t, &h[0..], past::past_of(t, &h[0..], s), u);
     }
     if !packed::in_force(t, 1) {
         return GRANTED;
     }
-    let own = past::current_level(t, h, s);
-    let other = past::current_level(t, h, u);
-    if other.compare(own) {
-        return GRANTED;
-    }
-    LOW_WATER
+    judge_level(t, &h[0..], s, past::current_level(t, &h[0..], u))
 }
 
-// What judging a request gives: its number, and the index of its bit in a history.
+// What judging a request gives: its number, the index of its bit in a history, and how far on the next record stands.
 pub struct Judged {
     pub number: u8,
     pub index: usize,
+    pub next: usize,
 }
 
-// A read of folder o by person s, with its index.
-fn read_at(t: &Words, h: &[u8], s: usize, o: usize) -> Judged
+// Whether a read of folder o by person s, or a write, is granted with no look at what the person did: no rule in force asks about it.
+fn is_free(t: &Words, s: usize, o: usize, write: bool) -> bool
+    ensures { λ r. ⌜ r ≡ isFree (tablesOf (now (t .entry))) s o write ⌝ }
+{
+    if asks_past(t) {
+        return false;
+    }
+    if asks_level(t, write) {
+        return false;
+    }
+    are_declared(t, s, o)
+}
+
+// The number of a read of folder o by person s, or of a write. A free one is granted here, in the loop of a run, and costs no call.
+fn access_number(t: &Words, h: &[u8], s: usize, o: usize, write: bool) -> u8
+    requires { ⌜ Ready (tablesOf (now t)) (now h) ⌝ }
+    ensures { λ r. ⌜ r ≡ judged (tablesOf (now (t .entry))) (setOf (now (h .entry))) (accessBy write s o) ⌝ }
+{
+    if is_free(t, s, o, write) {
+        return GRANTED;
+    }
+    judge_access(t, h, s, o, write)
+}
+
+// A read of folder o by person s, or a write.
+fn access_at(t: &Words, h: &[u8], s: usize, o: usize, write: bool) -> Judged
     requires { ⌜ Ready (tablesOf (now t)) (now h) × (s < 256) × (o < 256) ⌝ }
     ensures { λ r. ⌜
-        (r .number ≡ judged (tablesOf (now (t .entry))) (setOf (now (h .entry))) (read s o)) × (r .index ≡ index (read s o))
+        Answered (tablesOf (now (t .entry))) (setOf (now (h .entry))) (accessBy write s o) (r .number) (r .index) (r .next)
         ⌝ }
 {
     Judged {
-        number: judge_read(t, h, s, o),
-        index: 128 * s + o,
+        number: access_number(t, h, s, o, write),
+        index: request::access_index(write, s, o),
+        next: 3,
     }
 }
 
-// A write to folder o by person s, with its index.
-fn write_at(t: &Words, h: &[u8], s: usize, o: usize) -> Judged
-    requires { ⌜ Ready (tablesOf (now t)) (now h) × (s < 256) × (o < 256) ⌝ }
-    ensures { λ r. ⌜
-        (r .number ≡ judged (tablesOf (now (t .entry))) (setOf (now (h .entry))) (write s o)) × (r .index ≡ index (write s o))
-        ⌝ }
-{
-    Judged {
-        number: judge_write(t, h, s, o),
-        index: 8192 + 128 * s + o,
-    }
-}
-
-// A start of person u by person s, with its index.
+// A start of person u by person s.
 fn start_at(t: &Words, h: &[u8], s: usize, u: usize) -> Judged
     requires { ⌜ Ready (tablesOf (now t)) (now h) × (s < 256) × (u < 256) ⌝ }
     ensures { λ r. ⌜
-        (r .number ≡ judged (tablesOf (now (t .entry))) (setOf (now (h .entry))) (start s u)) × (r .index ≡ index (start s u))
+        Answered (tablesOf (now (t .entry))) (setOf (now (h .entry))) (start s u) (r .number) (r .index) (r .next)
         ⌝ }
 {
     Judged {
         number: judge_start(t, h, s, u),
-        index: 16384 + 64 * s + u,
+        index: request::start_index(s, u),
+        next: 3,
     }
 }
 
-// Step p on folder o by person s, with its index.
+// Step p on folder o by person s.
 fn step_at(t: &Words, h: &[u8], s: usize, p: usize, o: usize) -> Judged
     requires { ⌜ Ready (tablesOf (now t)) (now h) × (s < 256) × (p < 256) × (o < 256) ⌝ }
     ensures { λ r. ⌜
-        (r .number ≡ judged (tablesOf (now (t .entry))) (setOf (now (h .entry))) (step s p o)) × (r .index ≡ index (step s p o))
+        Answered (tablesOf (now (t .entry))) (setOf (now (h .entry))) (step s p o) (r .number) (r .index) (r .next)
         ⌝ }
 {
     Judged {
         number: judge_step(t, h, s, p, o),
-        index: 20480 + 64 * (16 * o + p) + s,
+        index: request::step_index(s, p, o),
+        next: 4,
     }
 }
 
-// The number of a parsed request, and the index of its bit; 0 for none.
-pub fn judge_parsed(t: &Words, h: &[u8], r: Parsed) -> Judged
+// The request at the front of the bytes, for a run: number, index and place of the next. A run has a call of its own, and so the compiler
+// merges it into the loop.
+pub fn judge_next(t: &Words, h: &[u8], bytes: &[u8]) -> Judged
     requires { ⌜ Ready (tablesOf (now t)) (now h) ⌝ }
-    ensures { λ n. ⌜
-        (n .number ≡ parsedNumber (tablesOf (now (t .entry))) (setOf (now (h .entry))) r) × (n .index ≡ indexOf r)
+    ensures { λ r. ⌜
+        AnsweredAt (tablesOf (now (t .entry))) (setOf (now (h .entry))) (now (bytes .entry)) (r .number) (r .index) (r .next)
         ⌝ }
 {
-    match r {
+    let parsed = request::parse(bytes);
+    match parsed {
         Parsed::Nothing => Judged {
             number: CUT,
             index: 0,
+            next: bytes.len(),
         },
-        Parsed::Read { person, folder } => read_at(t, h, wide(person), wide(folder)),
-        Parsed::Write { person, folder } => write_at(t, h, wide(person), wide(folder)),
+        Parsed::Access {
+            write,
+            person,
+            folder,
+        } => access_at(t, h, wide(person), wide(folder), write),
         Parsed::Start { person, second } => start_at(t, h, wide(person), wide(second)),
         Parsed::Step {
             person,
@@ -344,6 +364,19 @@ pub fn judge_bytes(t: &Words, h: &[u8], bytes: &[u8]) -> u8
     requires { ⌜ Ready (tablesOf (now t)) (now h) ⌝ }
     ensures { λ r. ⌜ r ≡ judgeOver (tablesOf (now (t .entry))) (setOf (now (h .entry))) (now (bytes .entry)) ⌝ }
 {
-    let judged = judge_parsed(t, h, request::parse(bytes));
-    judged.number
+    let parsed = request::parse(bytes);
+    match parsed {
+        Parsed::Nothing => CUT,
+        Parsed::Access {
+            write,
+            person,
+            folder,
+        } => judge_access(t, h, wide(person), wide(folder), write),
+        Parsed::Start { person, second } => judge_start(t, h, wide(person), wide(second)),
+        Parsed::Step {
+            person,
+            step,
+            folder,
+        } => judge_step(t, h, wide(person), wide(step), wide(folder)),
+    }
 }

@@ -4,13 +4,11 @@ use Prim.Native.Nat.{ℕ, zero, suc, _+_, _^_, _<_, _%_}
 use native.Mathlib.Nat.{le-of-suc-le-suc, not-suc-le-zero}
 use native.Mathlib.Omega.{arith}
 use mathlib.Core.Path.{_≡_, refl, sym, ap, _∙_}
-use mathlib.Core.Bool.{Bool, _&&_}
-use mathlib.Core.List.{List, [], _∷_}
-use lib.Dec.{ltb}
+use mathlib.Core.List.{List}
 use lib.ListN.{length, getD}
 use lib.Seq.{ext-getD}
 use borrow.Author.Tests.{lt-ltb}
-use Rattle.bits.specs.Bits.{bit, maskBelow}
+use Rattle.bits.specs.Bits.{maskBelow}
 use Rattle.bits.proofs.Masks.{mask-of-bits}
 use Rattle.policy.specs.Tables.{noFirm, noPerson, noFolder, noRole, firmAt, personAt, folderAt, roleAt, enabledBy, personDeclared}
 use Rattle.packed.specs.Packed.{folderOf, firmOf, personOf, roleOf, valuesFrom, tablesOf}

@@ -2,12 +2,12 @@
 -- below its place, so that every entry is read back from the part where it was put.
 use Prim.Native.Nat.{ℕ, _+_, _%_, _<_}
 use native.Mathlib.Omega.{arith}
-use mathlib.Core.Path.{_≡_, sym, ap, _∙_}
+use mathlib.Core.Path.{_≡_, ap, _∙_}
 use mathlib.Core.List.{List}
 use lib.ListN.{length, getD, set, length-set}
 use lib.Seq.{getD-set-same, getD-set-other}
 use borrow.Author.Tests.{lt-ltb}
-use Rattle.bits.specs.Bits.{bit, maskBelow}
+use Rattle.bits.specs.Bits.{maskBelow}
 use Rattle.bits.proofs.Masks.{bit-mask-below}
 use Rattle.policy.specs.declared.Tables.{Tables}
 use Rattle.policy.specs.Tables.{

@@ -12,7 +12,7 @@ use lib.Dec.{eqb, lit<}
 use lib.Pow.{shl-lt}
 use borrow.Author.Tests.{eq-eqb, ne-eqb, eqb-true, eqb-false}
 use Rattle.bits.specs.Bits.{bit, withBit, maskBelow}
-use Rattle.bits.specs.Bounded.{anyBelow, foldBelow}
+use Rattle.bits.specs.Bounded.{anyBelow}
 use Rattle.bits.proofs.Booleans.{and-left, and-both, or-cases, or-left, or-right, or-neither, or-swap, decide, false-elim, false-intro}
 use Rattle.bits.proofs.Bounds.{any-start, any-more, any-some, some-any, any-ext, none-any, fold-start, fold-more}
 use Rattle.bits.proofs.BitLaws.{bit-zero}

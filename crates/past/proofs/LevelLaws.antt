@@ -1,16 +1,18 @@
 -- The current level by the words of a history: the level after 128 folders is the level after the first 64 and then after the next 64,
--- and the bits of the word at byte 16 * s, and of the word after it, are the reads of these folders by person s.
-use Prim.Native.Nat.{ℕ, zero, suc, _+_, _*_, _%_, _≤_, _<_}
-use native.Mathlib.Nat.{lt-suc-self}
+-- and the bits of the word at byte 16 * s, and of the word after it, are the reads of these folders by person s. Over one word, the lowest
+-- folder that was read can come first, since a folder that was not read changes nothing.
+use Prim.Native.Nat.{ℕ, zero, suc, _+_, _*_, _%_, _^_, _≤_, _<_}
+use native.Mathlib.Nat.{eq-or-lt-of-le, le-of-suc-le-suc, lt-suc-self}
 use native.Mathlib.Omega.{arith}
 use mathlib.Core.Path.{_≡_, refl, sym, ap, _∙_}
-use mathlib.Core.Bool.{Bool, true}
+use mathlib.Core.Logic.{⊎-elim}
+use mathlib.Core.Bool.{Bool, true, false}
 use mathlib.Core.List.{List}
 use lib.ListN.{getD}
-use Rattle.bits.specs.Bits.{bit}
-use Rattle.bits.specs.Bounded.{foldBelow}
-use Rattle.bits.proofs.Bounds.{fold-start, fold-step}
-use Rattle.policy.specs.declared.Folder.{Folder}
+use Rattle.bits.specs.Bits.{bit, withoutBit}
+use Rattle.bits.specs.Bounded.{foldBelow, lowestBelow}
+use Rattle.bits.proofs.BitLaws.{bit-zero}
+use Rattle.bits.proofs.LowestBit.{below-lowest, lowest-lt, lowest-set, same-above, none-to-lowest}
 use Rattle.policy.specs.declared.Tables.{Tables}
 use Rattle.policy.specs.Tables.{personAt, folderAt, personDeclared}
 use Rattle.policy.specs.History.{bitAt}
@@ -39,6 +41,26 @@ fold-two n (suc m) f a =
     let next : n + suc m ≡ suc (n + m) = omega arith in
     ap (λ (k : ℕ). foldBelow k f a) next ∙ ap (f (n + m)) (fold-two n m f a)
 
+-- a function that changes nothing below n gives what it starts from
+fold-none : {A : Type 0} (n : ℕ) (f : ℕ → A → A) (a : A) → ((k : ℕ) (x : A) → k < n → f k x ≡ x) → foldBelow n f a ≡ a
+unfolding foldBelow
+fold-none zero f a h = refl
+fold-none (suc n) f a h = h n _ (lt-suc-self n) ∙ fold-none n f a (λ k x l. h k x (omega arith))
+
+-- f at k comes first, and then g, if f changes nothing below k, and g nothing up to k and after it the same as f
+fold-first : {A : Type 0} (n k : ℕ) (f g : ℕ → A → A) (a : A) → k < n → ((i : ℕ) (x : A) → i < k → f i x ≡ x)
+    → ((i : ℕ) (x : A) → i ≤ k → g i x ≡ x) → ((i : ℕ) (x : A) → k < i → f i x ≡ g i x) → foldBelow n f a ≡ foldBelow n g (f k a)
+unfolding foldBelow
+fold-first zero k f g a l low none same = absurd (omega arith)
+fold-first (suc n) k f g a l low none same =
+    ⊎-elim
+    (λ (e : k ≡ n).
+    rw e
+    (ap (f n) (fold-none n f a (λ i x b. low i x (omega arith)))
+    ∙ sym (none n _ (omega arith) ∙ fold-none n g (f n a) (λ i x b. none i x (omega arith)))))
+    (λ m. same n _ m ∙ ap (g n) (fold-first n k f g a m low none same))
+    (eq-or-lt-of-le (le-of-suc-le-suc l))
+
 -- ---- one word
 
 -- bit i of the word at a place, which was read, is the history's bit of an index
@@ -50,19 +72,30 @@ word-place h at i place small l read test same =
 
 -- ---- the level over one word
 
-module _ (t : Tables) (set first : ℕ) where
-  pub level-start : (level : ℕ) → level ≡ levelOver t set first 0 level
-  unfolding levelOver
-  level-start level = sym (fold-start _ level)
+module _ (t : Tables) (first : ℕ) where
+  -- a folder that was not read changes nothing
+  level-unread : (set i level : ℕ) → bit set i ≡ false → levelAt t set first i level ≡ level
+  unfolding levelAt levelAfter
+  level-unread set i level e = rw e
 
-  -- one folder more, whose entry and bit were read
-  pub level-step : (i start : ℕ) {level new : ℕ} {e : Folder} {wasRead : Bool} → i < 64 → e ≡ folderAt t (first + i)
-      → wasRead ≡ bit set (i % 64) → level ≡ levelOver t set first i start → new ≡ levelAfter e wasRead level
-      → new ≡ levelOver t set first (i + 1) start
+  -- no folder was read
+  pub level-none : (n level : ℕ) → levelOver t 0 first n level ≡ level
+  unfolding levelOver
+  level-none n level = fold-none n (levelAt t 0 first) level (λ i x l. level-unread 0 i x (bit-zero i))
+
+  -- the lowest folder that was read comes first, and then the others
+  pub level-lowest : (w set level : ℕ) → 0 < set → set < 2 ^ w → levelOver t set first w level
+      ≡ levelOver t (withoutBit set (lowestBelow w (bit set))) first w
+      (levelAfter (folderAt t (first + lowestBelow w (bit set))) true level)
   unfolding levelOver levelAt
-  level-step i start l entry test before turn =
-      let same : i % 64 ≡ i = omega arith in
-      fold-step i (levelAt t set first) start before (turn ∙ rw (entry, test, same))
+  level-lowest w set level some fits =
+      let k : ℕ = lowestBelow w (bit set) in
+      fold-first w k (levelAt t set first) (levelAt t (withoutBit set k) first) level (lowest-lt w set some fits)
+      (λ i x l. level-unread set i x (below-lowest w (bit set) i l))
+      (λ i x l. level-unread (withoutBit set k) i x (none-to-lowest w set i l))
+      (λ i x l. ap (λ (b : Bool). levelAfter (folderAt t (first + i)) b x) (sym (same-above set k i l)))
+      ∙ ap (λ (b : Bool). foldBelow w (levelAt t (withoutBit set k) first) (levelAfter (folderAt t (first + k)) b level))
+      (lowest-set w set some fits)
 
 -- ---- the level over two words
 

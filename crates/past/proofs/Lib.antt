@@ -1,5 +1,6 @@
 pub mod Recorded
 pub mod LevelLaws
+pub mod PartsLaws
 pub mod StepLaws
 pub mod TouchedLaws
 pub mod Gathered

@@ -5,7 +5,7 @@
 // Rights: the folder's kind for a read, 16 + kind for a write, 32 for a start, 48 + p for step p.
 ghost use mathlib.Core.Path.{_≡_};
 ghost use mathlib.Core.Bool.{true};
-ghost use Prim.Native.Nat.{_+_, _*_, _%_, _≤_, _<_};
+ghost use Prim.Native.Nat.{_+_, _*_, _%_, _≤_, _<_, min};
 ghost use lib.ListN.{length};
 ghost use Rattle.bits.specs.Bits.{maskBelow};
 ghost use Rattle.bits.specs.Bounded.{anyBelow};
@@ -17,7 +17,7 @@ ghost use Rattle.policy.specs.Rules.{currentLevel};
 ghost use Rattle.packed.specs.Packed.{tablesOf};
 ghost use Rattle.past.specs.Past.{pastBelow, pastOf};
 ghost use Rattle.past.specs.Turns.{InBounds, FolderInBounds, isUntouched, withBitIf, levelIf, stepAt, rightsOf};
-ghost use Rattle.past.specs.Turns.{levelAfter, levelOver, pastAfter, startByteAt, started};
+ghost use Rattle.past.specs.Turns.{partsAfter, levelOver, pastAfter, startByteAt, started};
 use level::Level;
 use packed::Words;
 use policy::Folder;
@@ -217,30 +217,53 @@ pub fn past_of(t: &Words, h: &[u8], s: usize) -> Past
     }
 }
 
-// The level after a folder with this entry, which lowers it if it is declared and was read.
-fn level_after(folder: Folder, read: bool, before: Level) -> Level
-    ensures { λ r. ⌜ r .0 ≡ levelAfter folder read (before .0) ⌝ }
+// A level in two: its rank and its compartments.
+struct LevelParts {
+    rank: u16,
+    compartments: u16,
+}
+
+// The smaller of two ranks.
+fn smaller(a: u16, b: u16) -> u16
+    ensures { λ r. ⌜ r ≡ min a b ⌝ }
 {
-    if !read {
-        return before;
+    if a <= b {
+        return a;
     }
+    b
+}
+
+// The parts of the level after a folder with this entry, which was read: it lowers the level if it is declared.
+fn parts_after(folder: Folder, before: LevelParts) -> LevelParts
+    ensures { λ r. ⌜ r ≡ partsAfter folder before ⌝ }
+{
     if !folder.declared {
         return before;
     }
-    let folder_level = folder.level;
-    before.meet(folder_level)
+    let level = folder.level;
+    LevelParts {
+        rank: smaller(before.rank, level.rank()),
+        compartments: before.compartments & level.compartments(),
+    }
 }
 
-// The level after the 64 folders from `first` on, of which those in the set were read: bit i for folder first + i.
+// The level after the 64 folders from `first` on, of which those in the set were read: bit i for folder first + i. Each turn takes the
+// lowest folder out of the set. The rank and the compartments are lowered apart, and make a level at the end.
 fn level_over(t: &Words, read: u64, first: usize, before: Level) -> Level
     requires { ⌜ first + 64 ≤ 128 ⌝ }
     ensures { λ r. ⌜ r .0 ≡ levelOver (tablesOf (now (t .entry))) read first 64 (before .0) ⌝ }
 {
-    let mut level = before;
-    for i in 0..64 {
-        level = level_after(packed::folder(t, first + i), bits::bit64(read, i), level);
+    let mut parts = LevelParts {
+        rank: before.rank(),
+        compartments: before.compartments(),
+    };
+    let mut rest = read;
+    while rest != 0 {
+        let i = bits::lowest64(rest);
+        parts = parts_after(packed::folder(t, first + i), parts);
+        rest = bits::without_lowest64(rest);
     }
-    level
+    Level::new(parts.rank, parts.compartments)
 }
 
 // The current level of person s. Only reads are looked at: the bits of 64 folders are one word of the history.

@@ -1,9 +1,9 @@
 -- What a set of granted requests says of persons and folders: who accessed what, which requests a person made, which steps were done.
 -- Each bounded search finds exactly the requests of the set, since a declared request has numbers within the bounds.
 use Prim.Native.Nat.{ℕ, _<_}
-use mathlib.Core.Path.{_≡_, refl, sym, ap, _∙_, subst}
-use mathlib.Core.Logic.{_⊎_, inl, inr, ⊎-elim, _↔_}
-use mathlib.Core.Bool.{Bool, true, false, _&&_, _||_}
+use mathlib.Core.Path.{_≡_, refl}
+use mathlib.Core.Logic.{_⊎_, ⊎-elim}
+use mathlib.Core.Bool.{Bool, true, _&&_, _||_}
 use lib.Dec.{leb, ltb}
 use borrow.Author.Tests.{ltb-true}
 use Rattle.bits.specs.Bounded.{anyBelow}
@@ -14,14 +14,7 @@ use Rattle.policy.specs.Tables.{personDeclared, folderDeclared}
 use Rattle.policy.specs.Request.{Request, read, write, start, step, subject, hasPlace}
 use Rattle.policy.specs.Rules.{declared, someRequest, did, accessed, done}
 use Rattle.policy.specs.Published.{Access, InHistory, Accessed, Applied}
-use Rattle.policy.proofs.Requests.{
-  person-below,
-  folder-below,
-  declared-person,
-  declared-step,
-  declared-folder,
-  declared-place,
-}
+use Rattle.policy.proofs.Requests.{person-below, folder-below, declared-person, declared-step}
 
 -- the folder of an access is declared
 pub access-declared : (t : Tables) (r : Request) (s o : ℕ) → declared t r ≡ true → Access r s o → folderDeclared t o ≡ true

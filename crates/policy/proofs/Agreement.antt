@@ -24,11 +24,10 @@ use mathlib.Core.List.{
 }
 use lib.Dec.{eqb}
 use Rattle.policy.specs.declared.Tables.{Tables}
-use Rattle.policy.specs.Tables.{enables, inForce}
-use Rattle.policy.specs.Rulebook.{given, hasCircle, loadBook, recordsOf}
+use Rattle.policy.specs.Tables.{inForce}
+use Rattle.policy.specs.Rulebook.{given, loadBook}
 use Rattle.policy.specs.Request.{Request, read, write, start, step, member}
-use Rattle.policy.specs.Calls.{judgeList, putNumbers}
-use Rattle.policy.specs.Agreement.{_∈_, FromBlank, granted, SameSet, Done, stepsOn, Throughout, Agreement, Claim}
+use Rattle.policy.specs.Agreement.{_∈_, FromBlank, granted, SameSet, Done, stepsOn, Throughout, Claim}
 use Rattle.policy.proofs.Circles.{Way, no-circle}
 use Rattle.policy.proofs.Granted.{grantedOver}
 use Rattle.policy.proofs.Histories.{

@@ -4,7 +4,7 @@ use Prim.Native.Nat.{ℕ, zero, suc, _<_}
 use native.Mathlib.Nat.{eq-or-lt-of-le, le-of-suc-le-suc, not-suc-le-zero}
 use mathlib.Core.Path.{_≡_}
 use mathlib.Core.Logic.{_⊎_, inl, inr, ⊎-elim}
-use mathlib.Core.Bool.{true, false, _&&_, _||_}
+use mathlib.Core.Bool.{true, false, _&&_}
 use Rattle.bits.proofs.Booleans.{and-left, and-right, and-both, or-cases, or-left, or-right, false-elim}
 use Rattle.bits.proofs.Bounds.{any-some, some-any}
 use Rattle.policy.specs.declared.Tables.{Tables}

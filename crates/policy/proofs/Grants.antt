@@ -1,21 +1,12 @@
 -- The second demand: a request of declared parties is granted exactly where every rule in force permits it by its published form; then
 -- put adds it to the set and nothing else, and otherwise it gets the number of the first check that refuses. Each rule is its published
 -- form, and a rule not in force refuses nothing.
-use Prim.Native.Nat.{ℕ}
 use mathlib.Core.Path.{_≡_, sym, _∙_}
-use mathlib.Core.Logic.{_↔_}
 use mathlib.Core.Bool.{Bool, true}
-use mathlib.Core.List.{List}
-use mathlib.Core.Option.{some}
-use lib.ListN.{length}
-use Rattle.bits.specs.Bounded.{_⇒_}
 use Rattle.bits.proofs.Booleans.{implies-elim, implies-intro}
 use Rattle.policy.specs.declared.Tables.{Tables}
-use Rattle.policy.specs.Rulebook.{given}
-use Rattle.policy.specs.History.{historyBytes}
-use Rattle.policy.specs.Request.{Request, requestOf, setOf}
+use Rattle.policy.specs.Request.{Request, setOf}
 use Rattle.policy.specs.Rules.{declared}
-use Rattle.policy.specs.Calls.{judgeNumber}
 use Rattle.policy.specs.Demands.{Permitted, Grants}
 use Rattle.policy.proofs.Published.{wall-published, low-water-published, roles-published, pipeline-published}
 use Rattle.policy.proofs.Granted.{Passed, checks-passed, passed-checks}

@@ -3,7 +3,7 @@
 use Prim.Native.Nat.{ℕ}
 use mathlib.Core.Path.{_≡_, refl, sym, ap, ap₂, _∙_, fun-ext}
 use mathlib.Core.Logic.{_↔_, _≢_}
-use mathlib.Core.Bool.{Bool, true, false, _||_, false≢true, or-assoc, or-false}
+use mathlib.Core.Bool.{Bool, true, false, _||_, or-assoc, or-false}
 use mathlib.Core.List.{List, [], _∷_, reverse, reverseAux, reverse-reverse}
 use mathlib.Core.Option.{Option, none, some}
 use lib.Dec.{eqb}
@@ -34,7 +34,7 @@ use Rattle.policy.specs.Demands.{FirstRefusal}
 use Rattle.policy.proofs.Requests.{member-none, member-more, member-in, in-member, declared-place}
 use Rattle.policy.proofs.Places.{set-recorded, set-zeros, Sized, sized-zeros, sized-recorded, set-history}
 use Rattle.policy.proofs.Granted.{judge-passed, putOver, grantedOver}
-use Rattle.policy.proofs.Ladders.{permit-none, permit-more, permit-first, ladder-zero, ladder-after, ladder-first}
+use Rattle.policy.proofs.Ladders.{permit-none, permit-more, ladder-after, ladder-first}
 
 -- ---- judging
 

@@ -1,5 +1,5 @@
 -- The marked cases P1 to P10 hold of the definitions, by computation.
-use mathlib.Core.Path.{_≡_, refl}
+use mathlib.Core.Path.{refl}
 use Rattle.bits.specs.Bits.{bit, withBit}
 use Rattle.bits.specs.Bounded.{anyBelow, allBelow, foldBelow}
 use Rattle.level.specs.Levels.{rankOf, compartmentsOf, levelOf, atMost, meetOf}

@@ -4,13 +4,13 @@
 use Prim.Native.Nat.{ℕ, zero, suc, _<_}
 use native.Mathlib.Nat.{eq-or-lt-of-le, le-of-suc-le-suc, not-suc-le-zero, lt-suc-self}
 use native.Mathlib.Omega.{arith}
-use mathlib.Core.Path.{_≡_, refl, sym, ap, _∙_, subst}
+use mathlib.Core.Path.{_≡_, refl, sym, ap, _∙_}
 use mathlib.Core.Logic.{_⊎_, inl, inr, ⊎-elim, _↔_, _≢_}
-use mathlib.Core.Bool.{Bool, true, false, cond, not, _&&_, _||_, false≢true}
-use lib.Dec.{eqb, ltb}
-use borrow.Author.Tests.{eqb-true, eqb-false, eq-eqb, ne-eqb, not-true, ltb-true}
+use mathlib.Core.Bool.{Bool, true, false, cond, not, _&&_}
+use lib.Dec.{eqb}
+use borrow.Author.Tests.{eqb-true, eqb-false, eq-eqb, ne-eqb, not-true}
 use Rattle.bits.specs.Bits.{bit}
-use Rattle.bits.specs.Bounded.{anyBelow, allBelow, foldBelow, _⇒_}
+use Rattle.bits.specs.Bounded.{anyBelow, foldBelow, _⇒_}
 use Rattle.bits.proofs.Booleans.{
   and-left,
   and-right,
@@ -28,28 +28,9 @@ use Rattle.bits.proofs.Bounds.{any-some, some-any, all-at, all-of}
 use Rattle.level.specs.Levels.{atMost, meetOf}
 use Rattle.level.proofs.LevelLaws.{split}
 use Rattle.policy.specs.declared.Tables.{Tables}
-use Rattle.policy.specs.Tables.{personAt, folderAt, roleAt, enables, roleDeclared, folderDeclared, classOf}
+use Rattle.policy.specs.Tables.{personAt, folderAt, roleAt, enables, roleDeclared, classOf}
 use Rattle.policy.specs.Request.{Request, read, write, start, step, subject}
-use Rattle.policy.specs.Rules.{
-  declared,
-  right,
-  someRequest,
-  did,
-  accessed,
-  opened,
-  otherClass,
-  wallAccess,
-  wall,
-  loweredBy,
-  currentLevel,
-  lowWater,
-  roleCovers,
-  roles,
-  done,
-  leadsTo,
-  pipelineStep,
-  pipeline,
-}
+use Rattle.policy.specs.Rules.{right, someRequest, did, accessed, opened, otherClass, wallAccess, wall, loweredBy, currentLevel, lowWater, roleCovers, roles, done, leadsTo, pipelineStep, pipeline}
 use Rattle.policy.specs.Published.{
   Access,
   InHistory,

@@ -4,33 +4,23 @@
 use Prim.Native.Nat.{ℕ}
 use mathlib.Core.Path.{_≡_, refl, sym, ap, _∙_, subst}
 use mathlib.Core.Logic.{_⊎_, inl, inr, ⊎-elim, _≢_}
-use mathlib.Core.Bool.{Bool, true, false, false≢true}
+use mathlib.Core.Bool.{Bool, true, false}
 use mathlib.Core.List.{List, [], _∷_, List·Memᴰ·head, List·Memᴰ·tail, List·Memᴰ·not-nil, List·Memᴰ·cases-cons}
 use mathlib.Core.Option.{some}
 use lib.Dec.{eqb}
 use borrow.Author.Tests.{eqb-true, eqb-false}
 use Rattle.bits.specs.Bits.{bit}
-use Rattle.bits.specs.Bounded.{_⇒_}
 use Rattle.bits.proofs.Booleans.{implies-elim, implies-intro, decide, false-elim}
 use Rattle.policy.specs.declared.Tables.{Tables}
 use Rattle.policy.specs.Tables.{firmAt, folderAt, roleAt, roleDeclared, classOf, inForce}
 use Rattle.policy.specs.Request.{Request, read, write, start, step, subject, requestOf, member}
-use Rattle.policy.specs.Rules.{declared, right, opened, wall, roles}
+use Rattle.policy.specs.Rules.{declared, right, opened}
 use Rattle.policy.specs.Calls.{judgeOver, judgeList}
-use Rattle.policy.specs.Published.{Access, InHistory, Accessed, WallAccess, Wall, Roles}
+use Rattle.policy.specs.Published.{Access, Accessed, WallAccess, Roles}
 use Rattle.policy.specs.Agreement.{_∈_}
 use Rattle.policy.proofs.Requests.{member-none, member-head, member-tail, member-cases}
 use Rattle.policy.proofs.Published.{opened-some, some-opened, wall-published, roles-published}
-use Rattle.policy.proofs.Granted.{
-  Passed,
-  judge-passed,
-  passed-judge,
-  putOver,
-  put-granted,
-  grantedOver,
-  granted-more,
-  judge-more,
-}
+use Rattle.policy.proofs.Granted.{Passed, judge-passed, passed-judge, putOver, put-granted, grantedOver, judge-more}
 
 -- the folders' firms are one, or of different classes
 Compatible : Tables → ℕ → ℕ → Type 0

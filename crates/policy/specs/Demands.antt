@@ -6,13 +6,12 @@ use mathlib.Core.Bool.{Bool, true, false, _||_}
 use mathlib.Core.List.{List, [], _∷_, _++_}
 use mathlib.Core.Option.{none, some}
 use lib.ListN.{length, drop}
-use Rattle.policy.specs.declared.Firm.{Firm}
 use Rattle.policy.specs.declared.Person.{Person}
 use Rattle.policy.specs.declared.Folder.{Folder}
 use Rattle.policy.specs.declared.Role.{Role}
 use Rattle.policy.specs.declared.Tables.{Tables}
 use Rattle.policy.specs.declared.Loaded.{Loaded}
-use Rattle.policy.specs.Checks.{Check, ladder}
+use Rattle.policy.specs.Checks.{Check}
 use Rattle.policy.specs.Tables.{emptyTables, inForce}
 use Rattle.policy.specs.Rulebook.{
   bodyLength,

@@ -1,4 +1,4 @@
--- Rulebooks (document 01, "Rulebook"): records, what each declares, the checks of loading in their order, and the tables that a load gives.
+-- Rulebooks (document 01, "Rulebook"): records, what each declares, the checks of loading in their order, and the tables a load gives.
 use Prim.Native.Nat.{ℕ, zero, suc, _+_, _*_}
 use mathlib.Core.Bool.{Bool, true, false, cond, not, _&&_, _||_, Bool·beq}
 use mathlib.Core.List.{List, [], _∷_}

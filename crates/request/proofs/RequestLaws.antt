@@ -2,16 +2,16 @@
 use Prim.Native.Nat.{ℕ, _≤_, _<_}
 use native.Mathlib.Nat.{eq-or-lt-of-le}
 use native.Mathlib.Omega.{arith}
-use mathlib.Core.Path.{_≡_, refl, sym, ap, _∙_}
+use mathlib.Core.Path.{_≡_, refl, ap, _∙_}
 use mathlib.Core.Logic.{_≢_, ⊎-elim}
 use mathlib.Core.Bool.{Bool, true, false, cond}
 use mathlib.Core.List.{List, [], _∷_}
-use mathlib.Core.Option.{Option, none, some}
+use mathlib.Core.Option.{none, some}
 use lib.Dec.{eqb}
 use lib.ListN.{length, getD, drop}
 use borrow.Author.Tests.{ne-eqb}
-use Rattle.policy.specs.Request.{Request, start, step, two, three, requestOf}
-use Rattle.request.specs.Parsed.{accessOf}
+use Rattle.policy.specs.Request.{Request, read, write, start, step, two, three, requestOf, recordLength}
+use Rattle.request.specs.Parsed.{accessBy, nextAfter, nextRecord}
 
 -- four choices among one thing
 same-choices : {A : Type 0} (a b c d : Bool) (x : A) → cond a x (cond b x (cond c x (cond d x x))) ≡ x
@@ -20,6 +20,16 @@ same-choices false true c d x = refl
 same-choices false false true d x = refl
 same-choices false false false true x = refl
 same-choices false false false false x = refl
+
+-- three bytes are passed by each request of three bytes, and by none
+three-bytes : (a b c d : Bool) (v w x : Request) → recordLength v ≡ 3 → recordLength w ≡ 3 → recordLength x ≡ 3
+    → nextAfter (cond a (some v) (cond b (some w) (cond c (some x) (cond d none none)))) 3 ≡ 3
+unfolding nextAfter
+three-bytes true b c d v w x p q r = p
+three-bytes false true c d v w x p q r = q
+three-bytes false false true d v w x p q r = r
+three-bytes false false false true v w x p q r = refl
+three-bytes false false false false v w x p q r = refl
 
 -- fewer than three bytes hold no request
 pub too-short : (l : List ℕ) → length l < 3 → requestOf l ≡ none
@@ -40,10 +50,11 @@ module _ (l : List ℕ) (long : 3 ≤ length l) where
       go (k ∷ a ∷ []) h = let z : ⊥ = omega arith in absurd z
       go (k ∷ a ∷ b ∷ rest) h = f k a b rest
 
-  pub is-access : 16 ≤ getD l 0 0 → getD l 0 0 ≤ 17 → requestOf l ≡ accessOf (getD l 0 0) l
-  unfolding requestOf two accessOf
+  pub is-access : 16 ≤ getD l 0 0 → getD l 0 0 ≤ 17 → requestOf l ≡ some (accessBy (eqb (getD l 0 0) 17) (getD l 1 0) (getD l 2 0))
+  unfolding requestOf two accessBy
   is-access =
-      written (λ m. 16 ≤ getD m 0 0 → getD m 0 0 ≤ 17 → requestOf m ≡ accessOf (getD m 0 0) m) (λ k a b rest low high.
+      written (λ m. 16 ≤ getD m 0 0 → getD m 0 0 ≤ 17 → requestOf m ≡ some (accessBy (eqb (getD m 0 0) 17) (getD m 1 0) (getD m 2 0)))
+      (λ k a b rest low high.
       ⊎-elim (λ e. rw (← e)) (λ above. let e : k ≡ 17 = omega arith in rw e) (eq-or-lt-of-le low))
 
   pub is-start : getD l 0 0 ≡ 18 → requestOf l ≡ some (start (getD l 1 0) (getD l 2 0))
@@ -78,3 +89,42 @@ whole-step (k ∷ []) h = let z : ⊥ = omega arith in absurd z
 whole-step (k ∷ a ∷ []) h = let z : ⊥ = omega arith in absurd z
 whole-step (k ∷ a ∷ b ∷ []) h = let z : ⊥ = omega arith in absurd z
 whole-step (k ∷ a ∷ b ∷ c ∷ rest) h = refl
+
+-- ---- how far on the next record stands
+
+-- fewer than four bytes are passed all, whether they are a record of three bytes or none
+pub next-short : (l : List ℕ) → length l < 4 → nextRecord l ≡ length l
+unfolding nextRecord requestOf two three nextAfter recordLength
+next-short [] h = refl
+next-short (k ∷ []) h = ap (λ r. nextAfter r 1) (same-choices (eqb k 16) (eqb k 17) (eqb k 18) (eqb k 19) none)
+next-short (k ∷ a ∷ []) h = ap (λ r. nextAfter r 2) (same-choices (eqb k 16) (eqb k 17) (eqb k 18) (eqb k 19) none)
+next-short (k ∷ a ∷ b ∷ []) h =
+    three-bytes (eqb k 16) (eqb k 17) (eqb k 18) (eqb k 19) (read a b) (write a b) (start a b) refl refl refl
+next-short (k ∷ a ∷ b ∷ c ∷ rest) h = let z : ⊥ = omega arith in absurd z
+
+pub access-length : (writes : Bool) (s o : ℕ) → recordLength (accessBy writes s o) ≡ 3
+unfolding accessBy recordLength
+access-length true s o = refl
+access-length false s o = refl
+
+module _ (l : List ℕ) (long : 4 ≤ length l) where
+  -- the next record, by the request that stands at the front
+  by-request : (r : Request) (n : ℕ) → requestOf l ≡ some r → recordLength r ≡ n → nextRecord l ≡ n
+  unfolding nextRecord nextAfter
+  by-request r n e m = rw e m
+
+  pub next-three : 16 ≤ getD l 0 0 → getD l 0 0 ≤ 18 → nextRecord l ≡ 3
+  unfolding recordLength
+  next-three low high =
+      ⊎-elim
+      (λ e. by-request (start (getD l 1 0) (getD l 2 0)) 3 (is-start l (omega arith) e) refl)
+      (λ below. by-request _ 3 (is-access l (omega arith) low (omega arith)) (access-length _ _ _))
+      (eq-or-lt-of-le high)
+
+  pub next-step : getD l 0 0 ≡ 19 → nextRecord l ≡ 4
+  unfolding recordLength
+  next-step e = by-request (step (getD l 1 0) (getD l 2 0) (getD l 3 0)) 4 (is-step l (omega arith) e ∙ whole-step l long) refl
+
+  pub next-unknown : getD l 0 0 ≢ 16 → getD l 0 0 ≢ 17 → getD l 0 0 ≢ 18 → getD l 0 0 ≢ 19 → nextRecord l ≡ length l
+  unfolding nextRecord nextAfter
+  next-unknown p q r s = rw (is-unknown l (omega arith) p q r s)

@@ -1,39 +1,32 @@
--- The request that a parsed record is, the length of its record, and the index of its bit.
+-- The request that a parsed record is, the index of its bit, and how far on the next record stands.
 use Prim.Native.Nat.{ℕ}
-use mathlib.Core.Bool.{cond}
+use mathlib.Core.Bool.{Bool, cond}
 use mathlib.Core.List.{List}
 use mathlib.Core.Option.{Option, none, some}
-use lib.Dec.{eqb}
-use lib.ListN.{getD}
-use Rattle.policy.specs.Request.{Request, read, write, start, step, index}
+use lib.ListN.{length}
+use Rattle.policy.specs.Request.{Request, read, write, start, step, index, requestOf, recordLength}
 use Rattle.request.specs.declared.Parsed.{Parsed}
-use Rattle.request.specs.declared.Parsed.the-variants.{Nothing, Read, Write, Start, Step}
+use Rattle.request.specs.declared.Parsed.the-variants.{Nothing, Access, Start, Step}
+
+-- the write or the read of folder o by person s
+unfoldable pub accessBy : Bool → ℕ → ℕ → Request
+accessBy writes s o = cond writes (write s o) (read s o)
 
 abbrev pub asRequest : Parsed → Option Request
 asRequest Nothing = none
-asRequest (Read s o) = some (read s o)
-asRequest (Write s o) = some (write s o)
+asRequest (Access writes s o) = some (accessBy writes s o)
 asRequest (Start s u) = some (start s u)
 asRequest (Step s p o) = some (step s p o)
 
--- the read or the write of these bytes, by the kind
-unfoldable pub accessOf : ℕ → List ℕ → Option Request
-accessOf kind bytes =
-    let person = getD bytes 1 0 in
-    let folder = getD bytes 2 0 in
-    cond (eqb kind 16) (some (read person folder)) (some (write person folder))
+-- the index of a request's bit in a history; 0 for none
+unfoldable pub indexOf : Option Request → ℕ
+indexOf none = 0
+indexOf (some r) = index r
 
-abbrev pub lengthOf : Parsed → ℕ
-lengthOf Nothing = 0
-lengthOf (Read s o) = 3
-lengthOf (Write s o) = 3
-lengthOf (Start s u) = 3
-lengthOf (Step s p o) = 4
+-- how far on the next record stands, with so many bytes left: by the length of the first, or by all of them where it is unknown or cut
+unfoldable pub nextAfter : Option Request → ℕ → ℕ
+nextAfter none left = left
+nextAfter (some r) left = recordLength r
 
--- the index of its bit in a history; 0 for none
-abbrev pub indexOf : Parsed → ℕ
-indexOf Nothing = 0
-indexOf (Read s o) = index (read s o)
-indexOf (Write s o) = index (write s o)
-indexOf (Start s u) = index (start s u)
-indexOf (Step s p o) = index (step s p o)
+unfoldable pub nextRecord : List ℕ → ℕ
+nextRecord bytes = nextAfter (requestOf bytes) (length bytes)

@@ -1,15 +1,14 @@
-// Request records (document 01, "Requests and calls"): the request at the front of some bytes.
+// Request records (document 01, "Requests and calls"): the request at the front of some bytes, and where the next one stands.
 ghost use mathlib.Core.Path.{_≡_};
-ghost use Prim.Native.Nat.{_≤_};
-ghost use lib.ListN.{length, drop};
-ghost use Rattle.policy.specs.Request.{requestOf, step, three};
-ghost use Rattle.request.specs.Parsed.{asRequest, accessOf, lengthOf};
+ghost use Prim.Native.Nat.{_<_};
+ghost use lib.ListN.{drop};
+ghost use Rattle.policy.specs.Request.{requestOf, start, step, index, three};
+ghost use Rattle.request.specs.Parsed.{accessBy, asRequest, indexOf, nextRecord};
 
-// A request with its fields, or none: the kind is unknown or the record is cut.
+// A request with its fields, or none: the kind is unknown or the record is cut. An access is a write or a read.
 pub enum Parsed {
     Nothing,
-    Read { person: u8, folder: u8 },
-    Write { person: u8, folder: u8 },
+    Access { write: bool, person: u8, folder: u8 },
     Start { person: u8, second: u8 },
     Step { person: u8, step: u8, folder: u8 },
 }
@@ -24,7 +23,11 @@ pub fn parse(bytes: &[u8]) -> Parsed
     }
     let kind = bytes[0];
     match kind {
-        16..=17 => parse_access(kind, bytes),
+        16..=17 => Parsed::Access {
+            write: kind == 17,
+            person: bytes[1],
+            folder: bytes[2],
+        },
         18 => Parsed::Start {
             person: bytes[1],
             second: bytes[2],
@@ -32,23 +35,6 @@ pub fn parse(bytes: &[u8]) -> Parsed
         19 => parse_step(bytes),
         0..=15 => Parsed::Nothing,
         20..=255 => Parsed::Nothing,
-    }
-}
-
-// The read or the write whose record stands at the front of the bytes: kind 16 is a read.
-fn parse_access(kind: u8, bytes: &[u8]) -> Parsed
-    requires { ⌜ 3 ≤ length (now bytes) ⌝ }
-    ensures { λ r. ⌜ asRequest r ≡ accessOf kind (now (bytes .entry)) ⌝ }
-{
-    if kind == 16 {
-        return Parsed::Read {
-            person: bytes[1],
-            folder: bytes[2],
-        };
-    }
-    Parsed::Write {
-        person: bytes[1],
-        folder: bytes[2],
     }
 }
 
@@ -66,28 +52,74 @@ fn parse_step(bytes: &[u8]) -> Parsed
     }
 }
 
-// The bytes of the request's record; 0 for none.
-pub fn record_length(r: Parsed) -> usize
-    ensures { λ n. ⌜ n ≡ lengthOf r ⌝ }
+// How far on the next record stands: by the length of this one, or by all the bytes left where it is unknown or cut, since it ends a run.
+// Fewer than four bytes are one record or none, so all of them are passed.
+pub fn next_record(bytes: &[u8]) -> usize
+    ensures { λ r. ⌜ r ≡ nextRecord (now (bytes .entry)) ⌝ }
+{
+    let left = bytes.len();
+    if left < 4 {
+        return left;
+    }
+    let kind = bytes[0];
+    match kind {
+        16..=18 => 3,
+        19 => 4,
+        0..=15 => left,
+        20..=255 => left,
+    }
+}
+
+// The index of the bit of a read of folder o by person s, or of a write.
+pub fn access_index(write: bool, s: usize, o: usize) -> usize
+    requires { ⌜ (s < 256) × (o < 256) ⌝ }
+    ensures { λ r. ⌜ r ≡ index (accessBy write s o) ⌝ }
+{
+    if write {
+        return 8192 + 128 * s + o;
+    }
+    128 * s + o
+}
+
+// The index of the bit of a start of person u by person s.
+pub fn start_index(s: usize, u: usize) -> usize
+    requires { ⌜ (s < 256) × (u < 256) ⌝ }
+    ensures { λ r. ⌜ r ≡ index (start s u) ⌝ }
+{
+    16384 + 64 * s + u
+}
+
+// The index of the bit of step p on folder o by person s.
+pub fn step_index(s: usize, p: usize, o: usize) -> usize
+    requires { ⌜ (s < 256) × (p < 256) × (o < 256) ⌝ }
+    ensures { λ r. ⌜ r ≡ index (step s p o) ⌝ }
+{
+    20480 + 64 * (16 * o + p) + s
+}
+
+// A byte as an index.
+fn wide(x: u8) -> usize
+    ensures { λ r. ⌜ (r ≡ x) × (r < 256) ⌝ }
+{
+    x as usize
+}
+
+// The index of the request's bit in a history; 0 for none.
+pub fn request_index(r: Parsed) -> usize
+    ensures { λ n. ⌜ n ≡ indexOf (asRequest r) ⌝ }
 {
     match r {
         Parsed::Nothing => 0,
-        Parsed::Read {
-            person: _,
-            folder: _,
-        } => 3,
-        Parsed::Write {
-            person: _,
-            folder: _,
-        } => 3,
-        Parsed::Start {
-            person: _,
-            second: _,
-        } => 3,
+        Parsed::Access {
+            write,
+            person,
+            folder,
+        } => access_index(write, wide(person), wide(folder)),
+        Parsed::Start { person, second } => start_index(wide(person), wide(second)),
         Parsed::Step {
-            person: _,
-            step: _,
-            folder: _,
-        } => 4,
+            person,
+            step,
+            folder,
+        } => step_index(wide(person), wide(step), wide(folder)),
     }
 }

@@ -1,5 +1,5 @@
--- The number of a record: what the code knows of the tables at the numbers of a reading is what the definition asks of them, and the checks
--- without the tables come before those on them. So the number that the code computes is the one of the definition.
+-- The number of a record: what the code knows of the tables at the numbers of a reading is what the definition asks of them, and the
+-- checks without the tables come before those on them. So the number that the code computes is the one of the definition.
 use Prim.Native.Nat.{ℕ, zero, suc, _+_}
 use native.Mathlib.Omega.{arith}
 use mathlib.Core.Bool.{Bool, true, false, cond, not, Bool·beq}

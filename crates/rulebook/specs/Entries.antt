@@ -1,5 +1,5 @@
--- The entries that a record declares, and the parts of the test for tables that a load gives, over the arrays of the tables. That these are
--- the parts of the definition is proved in proofs/EntryLaws.antt.
+-- The entries that a record declares, and the parts of the test for tables that a load gives, over the arrays of the tables. That these
+-- are the parts of the definition is proved in proofs/EntryLaws.antt.
 use Prim.Native.Nat.{ℕ, _%_}
 use mathlib.Core.Bool.{Bool, true, cond, _&&_}
 use mathlib.Core.List.{List}

@@ -1,16 +1,15 @@
 -- The wall and the roles over sets are the rules of the definitions: a firm is in the set exactly where the person opened it, a right
 -- exactly where the person used it, and a declared folder's firm and kind are within the sets' bounds.
-use Prim.Native.Nat.{ℕ, _+_, _%_, _^_, _<_}
-use native.Mathlib.Nat.{lt-of-lt-of-le}
+use Prim.Native.Nat.{ℕ, _%_, _^_, _<_}
 use native.Mathlib.Omega.{arith}
 use mathlib.Core.Path.{_≡_, refl, sym, ap, ap₂, _∙_, subst}
-use mathlib.Core.Logic.{_⊎_, inl, inr, ⊎-elim}
+use mathlib.Core.Logic.{_⊎_, ⊎-elim}
 use mathlib.Core.Bool.{Bool, true, false, cond, not, _&&_, _||_}
 use lib.Dec.{eqb, leb, ltb}
 use lib.Bits.{bitAnd}
-use borrow.Author.Tests.{eqb-true, eq-eqb, ne-eqb, not-true, leb-true, lt-ltb}
+use borrow.Author.Tests.{eqb-true, eq-eqb, not-true, leb-true, lt-ltb}
 use Rattle.bits.specs.Bits.{bit, withBit, maskBelow}
-use Rattle.bits.specs.Bounded.{anyBelow, allBelow, _⇒_}
+use Rattle.bits.specs.Bounded.{anyBelow, _⇒_}
 use Rattle.bits.proofs.Booleans.{
   and-left,
   and-right,
@@ -45,8 +44,8 @@ use Rattle.policy.specs.Rules.{
   roleCovers,
   roles,
 }
-use Rattle.policy.proofs.Requests.{declared-place, declared-step}
-use Rattle.policy.proofs.Accesses.{some-request, request-some, did-in, accessed-some, accessed-below, access-declared}
+use Rattle.policy.proofs.Requests.{declared-place}
+use Rattle.policy.proofs.Accesses.{some-request, request-some, did-in, accessed-some, access-declared}
 use Rattle.policy.proofs.GivenEntries.{folder-firm, folder-kind}
 use Rattle.rules.specs.Sets.{isRival, rivalAmong, wallBy, covers, coversAt, rolesBy}
 

@@ -1,6 +1,6 @@
 -- The wall and the roles as the code computes them: over the set of firms that a person opened and the set of rights that the person used.
 use Prim.Native.Nat.{ℕ, _%_}
-use mathlib.Core.Bool.{Bool, false, cond, not, _&&_, _||_}
+use mathlib.Core.Bool.{Bool, false, cond, not, _||_}
 use lib.Dec.{eqb}
 use lib.Bits.{bitAnd}
 use Rattle.bits.specs.Bits.{bit, withBit}

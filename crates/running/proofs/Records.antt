@@ -4,7 +4,6 @@ use Prim.Native.Nat.{ℕ, zero, suc, _+_, _≤_, _<_}
 use native.Mathlib.Nat.{not-suc-le-zero}
 use native.Mathlib.Omega.{arith}
 use mathlib.Core.Path.{_≡_, refl, sym, ap, _∙_}
-use mathlib.Core.Logic.{_≢_}
 use mathlib.Core.Bool.{Bool, true, false, cond}
 use mathlib.Core.List.{List, [], _∷_}
 use mathlib.Core.Option.{Option, none, some}
@@ -13,28 +12,9 @@ use lib.ListN.{length, drop, length-drop}
 use lib.Seq.{drop-length, drop-drop}
 use Rattle.policy.specs.Request.{Request, read, write, start, step, two, three, requestOf, recordLength}
 use Rattle.policy.specs.Calls.{afterRecord, callsFrom, callsOf, answersDue}
-use Rattle.request.specs.declared.Parsed.{Parsed}
-use Rattle.request.specs.declared.Parsed.the-variants.{Nothing, Read, Write, Start, Step}
-use Rattle.request.specs.Parsed.{asRequest, lengthOf}
-use Rattle.running.specs.Running.{nextAfter, nextRecord}
+use Rattle.request.specs.Parsed.{nextAfter, nextRecord}
 
 -- ---- the record at the front of some bytes, and the next
-
-pub next-none : (p : Parsed) (left : ℕ) → lengthOf p ≡ 0 → nextAfter (asRequest p) left ≡ left
-unfolding nextAfter
-next-none Nothing left e = refl
-next-none (Read s o) left e = let z : ⊥ = omega arith in absurd z
-next-none (Write s o) left e = let z : ⊥ = omega arith in absurd z
-next-none (Start s u) left e = let z : ⊥ = omega arith in absurd z
-next-none (Step s p o) left e = let z : ⊥ = omega arith in absurd z
-
-pub next-some : (p : Parsed) (left : ℕ) → lengthOf p ≢ 0 → nextAfter (asRequest p) left ≡ lengthOf p
-unfolding nextAfter recordLength
-next-some Nothing left n = absurd (n refl)
-next-some (Read s o) left n = refl
-next-some (Write s o) left n = refl
-next-some (Start s u) left n = refl
-next-some (Step s p o) left n = refl
 
 -- one of five, as four tests choose
 choices : {A : Type 0} (P : A → Type 0) (a b c d : Bool) (v w x y z : A) → P v → P w → P x → P y → P z

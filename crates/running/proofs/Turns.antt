@@ -15,17 +15,7 @@ use Rattle.bits.proofs.Booleans.{decide}
 use Rattle.policy.specs.declared.Tables.{Tables}
 use Rattle.policy.specs.History.{withBitAt}
 use Rattle.policy.specs.Request.{Request, requestOf, recorded}
-use Rattle.policy.specs.Calls.{
-  judgeNumber,
-  recordedIf,
-  putHistory,
-  putNumbers,
-  putHistories,
-  callsOf,
-  answersDue,
-  grantedIn,
-  refusedIn,
-}
+use Rattle.policy.specs.Calls.{recordedIf, putHistory, putNumbers, putHistories, callsOf, answersDue, grantedIn}
 use Rattle.policy.proofs.Runs.{numbers-length, counted-once}
 use Rattle.judging.specs.Judging.{Ready}
 use Rattle.running.specs.Running.{runNumbers, Turned, Finished}

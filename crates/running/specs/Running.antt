@@ -1,11 +1,9 @@
--- What the functions of this crate give: the place of the next record, one turn of a run, and a whole run.
+-- What the functions of this crate give: one turn of a run, and a whole run.
 use Prim.Native.Nat.{ℕ}
 use mathlib.Core.Path.{_≡_}
 use mathlib.Core.List.{List, _++_}
-use mathlib.Core.Option.{Option, none, some}
-use lib.ListN.{length, drop}
+use lib.ListN.{drop}
 use Rattle.policy.specs.declared.Tables.{Tables}
-use Rattle.policy.specs.Request.{Request, requestOf, recordLength}
 use Rattle.policy.specs.Calls.{
   judgeNumber,
   putHistory,
@@ -16,14 +14,7 @@ use Rattle.policy.specs.Calls.{
   grantedIn,
   refusedIn,
 }
-
--- how far on the next record stands, with so many bytes left: by the length of the first, or by all of them where it is unknown or cut
-unfoldable pub nextAfter : Option Request → ℕ → ℕ
-nextAfter none left = left
-nextAfter (some r) left = recordLength r
-
-unfoldable pub nextRecord : List ℕ → ℕ
-nextRecord bytes = nextAfter (requestOf bytes) (length bytes)
+use Rattle.request.specs.Parsed.{nextRecord}
 
 -- one put of a run: its number, how far on the next record stands, and the history after it
 pub record Turned (t : Tables) (before bytes : List ℕ) (number next : ℕ) (after : List ℕ) : Type 0 where

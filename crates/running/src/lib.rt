@@ -7,26 +7,9 @@ ghost use lib.ListN.{length};
 ghost use Rattle.policy.specs.Request.{requestOf, setOf};
 ghost use Rattle.policy.specs.Calls.{judgeOver, recordedIf, answersDue};
 ghost use Rattle.packed.specs.Packed.{tablesOf};
-ghost use Rattle.request.specs.Parsed.{asRequest};
-ghost use Rattle.judging.specs.Judging.{Ready, parsedNumber};
-ghost use Rattle.running.specs.Running.{nextAfter, nextRecord, Turned, Finished};
+ghost use Rattle.judging.specs.Judging.{Ready};
+ghost use Rattle.running.specs.Running.{Turned, Finished};
 use packed::Words;
-use request::Parsed;
-
-// Judges a parsed request, and records it where it is granted.
-fn put_parsed(t: &Words, h: &mut [u8], parsed: Parsed) -> u8
-    requires { ⌜ Ready (tablesOf (now t)) (now h) ⌝ }
-    ensures { λ r. ⌜
-        (r ≡ parsedNumber (tablesOf (now (t .entry))) (setOf (now (h .entry))) parsed)
-        × (now (h .exit) ≡ recordedIf (eqb r 0) (now (h .entry)) (asRequest parsed))
-        ⌝ }
-{
-    let judged = judging::judge_parsed(t, h, parsed);
-    if judged.number == judging::GRANTED {
-        history::set_bit(h, judged.index);
-    }
-    judged.number
-}
 
 // Judges the request at the front of the bytes, and records it where it is granted.
 pub fn put_ready(t: &Words, h: &mut [u8], request: &[u8]) -> u8
@@ -36,26 +19,11 @@ pub fn put_ready(t: &Words, h: &mut [u8], request: &[u8]) -> u8
         × (now (h .exit) ≡ recordedIf (eqb r 0) (now (h .entry)) (requestOf (now (request .entry))))
         ⌝ }
 {
-    let parsed = request::parse(request);
-    put_parsed(t, h, parsed)
-}
-
-// How far on the next record stands: by the length of this one, or by all the bytes left where it is unknown or cut, since it ends a run.
-fn next_after(parsed: Parsed, left: usize) -> usize
-    ensures { λ r. ⌜ r ≡ nextAfter (asRequest parsed) left ⌝ }
-{
-    let length = request::record_length(parsed);
-    if length == 0 {
-        return left;
+    let number = judging::judge_bytes(t, h, request);
+    if number == judging::GRANTED {
+        history::set_bit(h, request::request_index(request::parse(request)));
     }
-    length
-}
-
-// How far on the record after the one at the front of the bytes stands.
-fn next_record(bytes: &[u8]) -> usize
-    ensures { λ r. ⌜ r ≡ nextRecord (now (bytes .entry)) ⌝ }
-{
-    next_after(request::parse(bytes), bytes.len())
+    number
 }
 
 // The answers that a run of the requests has: one for each record, and one for the unknown or cut record that ends it.
@@ -65,7 +33,7 @@ pub fn answers_due(requests: &[u8]) -> usize
     let mut at: usize = 0;
     let mut due: usize = 0;
     while at < requests.len() {
-        at += next_record(&requests[at..]);
+        at += request::next_record(&requests[at..]);
         due += 1;
     }
     due
@@ -82,11 +50,13 @@ fn run_turn(t: &Words, h: &mut [u8], bytes: &[u8]) -> Turn
     requires { ⌜ Ready (tablesOf (now t)) (now h) ⌝ }
     ensures { λ r. ⌜ Turned (tablesOf (now (t .entry))) (now (h .entry)) (now (bytes .entry)) (r .number) (r .next) (now (h .exit)) ⌝ }
 {
-    let parsed = request::parse(bytes);
-    let number = put_parsed(t, h, parsed);
+    let judged = judging::judge_next(t, h, bytes);
+    if judged.number == judging::GRANTED {
+        history::set_bit(h, judged.index);
+    }
     Turn {
-        number: number,
-        next: next_after(parsed, bytes.len()),
+        number: judged.number,
+        next: judged.next,
     }
 }
 

@@ -1,9 +1,7 @@
 -- `judge_past` is the first of wall, low-water and roles that refuses, by the masks and the level of what the person did.
-use native.Mathlib.Omega.{arith}
 use mathlib.Core.Path.{sym, _∙_}
 use mathlib.Core.Logic.{inl, inr, ⊎-elim}
 use borrow.Author.Tests.{not-true, not-false}
-use Rattle.policy.specs.Tables.{inForce}
 use Rattle.policy.proofs.Requests.{folder-below}
 use Rattle.judging.proofs.JudgingLaws.{level-test, passes, refuses, number-wall, number-level, number-roles, number-none}
 use borrow.Author.Needs.{needs}

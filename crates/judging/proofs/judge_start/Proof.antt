@@ -1,32 +1,32 @@
 -- `judge_start` is 13 for undeclared parties, and otherwise low-water of both current levels, then roles with right 32.
 use mathlib.Core.Path.{sym, _∙_}
-use mathlib.Core.Logic.{inl, inr}
+use mathlib.Core.Logic.{inr}
 use borrow.Author.Tests.{not-true, not-false}
+use denote.Ref.{now}
 use Rattle.bits.proofs.Booleans.{and-both}
 use Rattle.policy.specs.Tables.{personDeclared, inForce}
 use Rattle.policy.specs.Request.{start}
 use Rattle.policy.specs.Rules.{declared}
+use Rattle.packed.specs.Packed.{tablesOf}
 use Rattle.judging.proofs.JudgingLaws.{
+  whole-part,
   implies-true,
   passes,
-  refuses,
   known-both,
-  number-level,
   number-none,
+  number-alone,
   not-declared,
   start-past,
   start-number,
 }
-use Rattle.packed.specs.Packed.{tablesOf}
-use denote.Ref.{now}
 use borrow.Author.Needs.{needs}
 use Rattle.judging.proofs.judge_start.Statement.{statement}
 use Rattle.judging.proofs.judge_start.Tie as tie
 use Rattle.judging.proofs.judge_start.Reads as reads
 use Rattle.judging.proofs.judge_start.Lts as lts
 use Rattle.judging.proofs.are_persons.Reads as are-persons-reads
+use Rattle.judging.proofs.judge_level.Reads as judge-level-reads
 use Rattle.judging.proofs.judge_start_past.Reads as judge-start-past-reads
-use Rattle.level.proofs.Level.compare.Reads as compare-reads
 use Rattle.packed.proofs.in_force.Reads as in-force-reads
 use Rattle.past.proofs.current_level.Reads as current-level-reads
 use Rattle.past.proofs.past_of.Reads as past-of-reads
@@ -41,43 +41,56 @@ returns c = sym (not-declared _ _ (start _ _) (sym (c .before .are-persons .ensu
 in-force-requires : tie.Need-in-force-requires
 in-force-requires c κs = search needs
 
+sub-judge-start-past : tie.Need-sub-judge-start-past
+sub-judge-start-past c = search needs
+
+part-judge-start-past-start : tie.Need-part-judge-start-past-start
+part-judge-start-past-start c = search needs
+
+part-judge-start-past-end : tie.Need-part-judge-start-past-end
+part-judge-start-past-end c = search needs
+
+sub-past-of : tie.Need-sub-past-of
+sub-past-of c = search needs
+
+part-past-of-start : tie.Need-part-past-of-start
+part-past-of-start c = search needs
+
+part-past-of-end : tie.Need-part-past-of-end
+part-past-of-end c = search needs
+
 past-of-requires : tie.Need-past-of-requires
 past-of-requires c κs =
-    let start = c .before .before .before .before .before in
+    let start = c .before .before .before .before .before .before .before in
     let t = tablesOf (now (start .args .t)) in
-    let are-persons = c .before .before .before .are-persons in
-    let if1 = c .before .before .if1 in
+    let are-persons = c .before .before .before .before .before .are-persons in
     let known =
     known-both (personDeclared t (start .args .s)) (personDeclared t (start .args .u))
-    (are-persons .result) (are-persons .ensures) (if1 .left) in
-    (start .pre .size, start .pre .tables, known .0)
+    (are-persons .result) (are-persons .ensures) (c .before .before .before .before .if1 .left) in
+    rw whole-part (start .pre .size, start .pre .tables, known .0)
 
 judge-start-past-requires : tie.Need-judge-start-past-requires
 judge-start-past-requires c κs =
-    let start = c .before .before .before .before .before .before in
+    let start = c .before .before .before .before .before .before .before .before in
     let t = tablesOf (now (start .args .t)) in
-    let are-persons = c .before .before .before .before .are-persons in
-    let if1 = c .before .before .before .if1 in
-    let first-test = c .before .before .in-force in
-    let if2 = c .before .if2 in
+    let are-persons = c .before .before .before .before .before .before .are-persons in
     let known =
     known-both (personDeclared t (start .args .s)) (personDeclared t (start .args .u))
-    (are-persons .result) (are-persons .ensures) (if1 .left) in
-    (start .pre, known .1, (sym (first-test .ensures) ∙ if2 .taken))
+    (are-persons .result) (are-persons .ensures) (c .before .before .before .before .before .if1 .left) in
+    let roles-on = sym (c .before .before .before .before .in-force .ensures) ∙ c .before .before .before .if2 .taken in
+    rw whole-part (start .pre, known .1, roles-on)
 
 returns-2 : tie.Need-returns-2
 unfolding declared
 returns-2 c =
-    let start = c .before .before .before .before .before .before .before in
+    let start = c .before .before .before .before .before .before .before .before .before in
     let t = tablesOf (now (start .args .t)) in
-    let are-persons = c .before .before .before .before .before .are-persons in
-    let if1 = c .before .before .before .before .if1 in
-    let past-of = c .before .past-of in
+    let are-persons = c .before .before .before .before .before .before .before .are-persons in
     let known =
     known-both (personDeclared t (start .args .s)) (personDeclared t (start .args .u))
-    (are-persons .result) (are-persons .ensures) (if1 .left) in
-    c .judge-start-past .ensures
-    ∙ start-past _ _ (start .pre .tables) _ _ (past-of .result) (past-of .ensures)
+    (are-persons .result) (are-persons .ensures) (c .before .before .before .before .before .before .if1 .left) in
+    let past = rw whole-part at (c .before .past-of .ensures) in
+    rw whole-part at (c .judge-start-past .ensures) ∙ start-past _ _ (start .pre .tables) _ _ _ past
     ∙ sym (start-number _ _ (start .pre .tables) _ _ (and-both _ _ (known .0) (known .1)))
 
 in-force-requires-2 : tie.Need-in-force-requires-2
@@ -89,42 +102,52 @@ returns-3 c =
     let start = c .before .before .before .before .before .before .before in
     let t = tablesOf (now (start .args .t)) in
     let are-persons = c .before .before .before .before .before .are-persons in
-    let if1 = c .before .before .before .before .if1 in
-    let second-test = c .before .in-force2 in
-    let first-test = c .before .before .before .in-force in
-    let if2 = c .before .before .if2 in
     let known =
     known-both (personDeclared t (start .args .s)) (personDeclared t (start .args .u))
-    (are-persons .result) (are-persons .ensures) (if1 .left) in
+    (are-persons .result) (are-persons .ensures) (c .before .before .before .before .if1 .left) in
+    let level-off = sym (c .before .in-force2 .ensures) ∙ not-true _ (c .if3 .taken) in
+    let roles-off = sym (c .before .before .before .in-force .ensures) ∙ c .before .before .if2 .left in
     sym
     (start-number _ _ (start .pre .tables) _ _ (and-both _ _ (known .0) (known .1))
-    ∙ number-none _ _ _ _ (implies-true (inForce t 0)) (passes _ _ (inr (sym (second-test .ensures) ∙ not-true _ (c .if3 .taken))))
-    (passes _ _ (inr (sym (first-test .ensures) ∙ if2 .left))))
+    ∙ number-none _ _ _ _ (implies-true (inForce t 0)) (passes _ _ (inr level-off)) (passes _ _ (inr roles-off)))
+
+sub-judge-level : tie.Need-sub-judge-level
+sub-judge-level c = search needs
+
+part-judge-level-start : tie.Need-part-judge-level-start
+part-judge-level-start c = search needs
+
+part-judge-level-end : tie.Need-part-judge-level-end
+part-judge-level-end c = search needs
+
+sub-current-level : tie.Need-sub-current-level
+sub-current-level c = search needs
+
+part-current-level-start : tie.Need-part-current-level-start
+part-current-level-start c = search needs
+
+part-current-level-end : tie.Need-part-current-level-end
+part-current-level-end c = search needs
 
 current-level-requires : tie.Need-current-level-requires
 current-level-requires c κs =
-    let start = c .before .before .before .before .before .before .before in
+    let start = c .before .before .before .before .before .before .before .before .before in
     let t = tablesOf (now (start .args .t)) in
-    let are-persons = c .before .before .before .before .before .are-persons in
-    let if1 = c .before .before .before .before .if1 in
+    let are-persons = c .before .before .before .before .before .before .before .are-persons in
     let known =
     known-both (personDeclared t (start .args .s)) (personDeclared t (start .args .u))
-    (are-persons .result) (are-persons .ensures) (if1 .left) in
-    (start .pre .size, start .pre .tables, known .0)
+    (are-persons .result) (are-persons .ensures) (c .before .before .before .before .before .before .if1 .left) in
+    rw whole-part (start .pre .size, start .pre .tables, known .1)
 
-current-level-requires-2 : tie.Need-current-level-requires-2
-current-level-requires-2 c κs =
-    let start = c .before .before .before .before .before .before .before .before in
+judge-level-requires : tie.Need-judge-level-requires
+judge-level-requires c κs =
+    let start = c .before .before .before .before .before .before .before .before .before .before in
     let t = tablesOf (now (start .args .t)) in
-    let are-persons = c .before .before .before .before .before .before .are-persons in
-    let if1 = c .before .before .before .before .before .if1 in
+    let are-persons = c .before .before .before .before .before .before .before .before .are-persons in
     let known =
     known-both (personDeclared t (start .args .s)) (personDeclared t (start .args .u))
-    (are-persons .result) (are-persons .ensures) (if1 .left) in
-    (start .pre .size, start .pre .tables, known .1)
-
-compare-requires : tie.Need-compare-requires
-compare-requires c κs = search needs
+    (are-persons .result) (are-persons .ensures) (c .before .before .before .before .before .before .before .if1 .left) in
+    rw whole-part (start .pre, known .0)
 
 returns-4 : tie.Need-returns-4
 unfolding declared
@@ -132,48 +155,17 @@ returns-4 c =
     let start = c .before .before .before .before .before .before .before .before .before .before .before in
     let t = tablesOf (now (start .args .t)) in
     let are-persons = c .before .before .before .before .before .before .before .before .before .are-persons in
-    let if1 = c .before .before .before .before .before .before .before .before .if1 in
-    let second-test = c .before .before .before .before .before .in-force2 in
-    let if3 = c .before .before .before .before .if3 in
-    let current-level2 = c .before .before .current-level2 in
-    let current-level = c .before .before .before .current-level in
-    let call-compare = c .before .compare in
+    let known =
+    known-both (personDeclared t (start .args .s)) (personDeclared t (start .args .u))
+    (are-persons .result) (are-persons .ensures) (c .before .before .before .before .before .before .before .before .if1 .left) in
+    let level-on =
+    sym (c .before .before .before .before .before .in-force2 .ensures) ∙ not-false _ (c .before .before .before .before .if3 .left) in
     let first-test = c .before .before .before .before .before .before .before .in-force in
-    let if2 = c .before .before .before .before .before .before .if2 in
-    let known =
-    known-both (personDeclared t (start .args .s)) (personDeclared t (start .args .u))
-    (are-persons .result) (are-persons .ensures) (if1 .left) in
-    sym
-    (start-number _ _ (start .pre .tables) _ _ (and-both _ _ (known .0) (known .1))
-    ∙ number-none _ _ _ _ (implies-true (inForce t 0))
-    (passes _ _ (inl (
-      (sym (second-test .ensures)
-          ∙ not-false _ (if3 .left)),
-      rw (← current-level2 .ensures, ← current-level .ensures) (sym (call-compare .ensures)
-          ∙ c .if4 .taken),
-    )))
-    (passes _ _ (inr (sym (first-test .ensures) ∙ if2 .left))))
-
-returns-5 : tie.Need-returns-5
-unfolding declared
-returns-5 c =
-    let start = c .before .before .before .before .before .before .before .before .before .before .before in
-    let t = tablesOf (now (start .args .t)) in
-    let are-persons = c .before .before .before .before .before .before .before .before .before .are-persons in
-    let if1 = c .before .before .before .before .before .before .before .before .if1 in
-    let second-test = c .before .before .before .before .before .in-force2 in
-    let if3 = c .before .before .before .before .if3 in
-    let current-level2 = c .before .before .current-level2 in
-    let current-level = c .before .before .before .current-level in
-    let call-compare = c .before .compare in
-    let known =
-    known-both (personDeclared t (start .args .s)) (personDeclared t (start .args .u))
-    (are-persons .result) (are-persons .ensures) (if1 .left) in
-    sym
-    (start-number _ _ (start .pre .tables) _ _ (and-both _ _ (known .0) (known .1))
-    ∙ number-level _ _ _ _ (implies-true (inForce t 0))
-    (refuses _ _ (sym (second-test .ensures)
-    ∙ not-false _ (if3 .left)) (rw (← current-level2 .ensures, ← current-level .ensures) (sym (call-compare .ensures) ∙ c .if4 .left))))
+    let roles-off = sym (first-test .ensures) ∙ c .before .before .before .before .before .before .if2 .left in
+    let other = rw whole-part at (c .before .current-level .ensures) in
+    rw whole-part at (c .judge-level .ensures) ∙ rw other
+    (sym (start-number _ _ (start .pre .tables) _ _ (and-both _ _ (known .0) (known .1))
+    ∙ number-alone _ _ _ level-on roles-off))
 
 pub judge-start-spec : {M : Type 1} → statement M
 judge-start-spec =
@@ -182,13 +174,23 @@ judge-start-spec =
     are-persons-requires
     returns
     in-force-requires
+    sub-judge-start-past
+    part-judge-start-past-start
+    part-judge-start-past-end
+    sub-past-of
+    part-past-of-start
+    part-past-of-end
     past-of-requires
     judge-start-past-requires
     returns-2
     in-force-requires-2
     returns-3
+    sub-judge-level
+    part-judge-level-start
+    part-judge-level-end
+    sub-current-level
+    part-current-level-start
+    part-current-level-end
     current-level-requires
-    current-level-requires-2
-    compare-requires
-    returns-4
-    returns-5)
+    judge-level-requires
+    returns-4)

@@ -15,6 +15,7 @@ use Rattle.judging.proofs.JudgingLaws.{
   before-pipeline,
   then-pipeline,
   step-number,
+  whole-part,
 }
 use Rattle.packed.specs.Packed.{tablesOf}
 use borrow.Author.Needs.{needs}
@@ -39,31 +40,38 @@ returns-2 c =
     (not-declared _ _ (step _ _ _)
     (undeclared-step _ _ _ _ (sym (c .before .are-declared .ensures) ∙ not-true _ (c .if2 .taken))))
 
+sub-judge-step-access : tie.Need-sub-judge-step-access
+sub-judge-step-access c = search needs
+
+part-judge-step-access-start : tie.Need-part-judge-step-access-start
+part-judge-step-access-start c = search needs
+
+part-judge-step-access-end : tie.Need-part-judge-step-access-end
+part-judge-step-access-end c = search needs
+
 judge-step-access-requires : tie.Need-judge-step-access-requires
 judge-step-access-requires c κs =
-    let start = c .before .before .before .before in
+    let start = c .before .before .before .before .before in
     let t = tablesOf (now (start .args .t)) in
-    let are-declared = c .before .are-declared in
+    let are-declared = c .before .before .are-declared in
     let known =
     known-both (personDeclared t (start .args .s)) (folderDeclared t (start .args .o))
-    (are-declared .result) (are-declared .ensures) (c .if2 .left) in
-    (start .pre, known .0, known .1, omega arith)
+    (are-declared .result) (are-declared .ensures) (c .before .if2 .left) in
+    rw whole-part (start .pre, known .0, known .1, omega arith)
 
 returns-3 : tie.Need-returns-3
 returns-3 c =
-    let start = c .before .before .before .before .before .before in
+    let start = c .before .before .before .before .before .before .before in
     let t = tablesOf (now (start .args .t)) in
-    let are-declared = c .before .before .before .are-declared in
-    let if2 = c .before .before .if2 in
-    let judge-step-access = c .before .judge-step-access in
+    let are-declared = c .before .before .before .before .are-declared in
     let known =
     known-both (personDeclared t (start .args .s)) (folderDeclared t (start .args .o))
-    (are-declared .result) (are-declared .ensures) (if2 .left) in
+    (are-declared .result) (are-declared .ensures) (c .before .before .before .if2 .left) in
     let d = step-declared t (start .args .s) (start .args .p) (start .args .o) (known .0) (omega arith) (known .1) in
+    let access = rw whole-part at (c .before .judge-step-access .ensures) in
     sym
-    (before-pipeline _ _ _ _ _ (judge-step-access .result) d (judge-step-access .ensures
-    ∙ step-number t (setOf (now (start .args .h))) (start .pre .tables) (start .args .s) (start .args .p)
-    (start .args .o) d)
+    (before-pipeline _ _ _ _ _ (c .before .judge-step-access .result) d
+    (access ∙ step-number t (setOf (now (start .args .h))) (start .pre .tables) (start .args .s) (start .args .p) (start .args .o) d)
     (c .if3 .taken))
 
 in-force-requires : tie.Need-in-force-requires
@@ -71,78 +79,77 @@ in-force-requires c κs = search needs
 
 returns-4 : tie.Need-returns-4
 returns-4 c =
-    let start = c .before .before .before .before .before .before .before .before in
+    let start = c .before .before .before .before .before .before .before .before .before in
     let t = tablesOf (now (start .args .t)) in
-    let are-declared = c .before .before .before .before .before .are-declared in
-    let if2 = c .before .before .before .before .if2 in
-    let first-test = c .before .in-force in
-    let judge-step-access = c .before .before .before .judge-step-access in
-    let if3 = c .before .before .if3 in
+    let are-declared = c .before .before .before .before .before .before .are-declared in
     let known =
     known-both (personDeclared t (start .args .s)) (folderDeclared t (start .args .o))
-    (are-declared .result) (are-declared .ensures) (if2 .left) in
+    (are-declared .result) (are-declared .ensures) (c .before .before .before .before .before .if2 .left) in
     let d = step-declared t (start .args .s) (start .args .p) (start .args .o) (known .0) (omega arith) (known .1) in
-    let off : inForce t 3 ≡ false = (sym (first-test .ensures) ∙ not-true _ (c .if4 .taken)) in
+    let access = rw whole-part at (c .before .before .before .judge-step-access .ensures) in
+    let off : inForce t 3 ≡ false = sym (c .before .in-force .ensures) ∙ not-true _ (c .if4 .taken) in
     sym
-    (then-pipeline t (setOf (now (start .args .h))) _ _ _ d (sym (step-number t (setOf (now
-    (start .args .h))) (start .pre .tables) (start .args .s) (start .args .p) (start .args .o) d) ∙ sym (judge-step-access .ensures)
-    ∙ if3 .left)
+    (then-pipeline t (setOf (now (start .args .h))) _ _ _ d
+    (sym (step-number t (setOf (now (start .args .h))) (start .pre .tables) (start .args .s) (start .args .p) (start .args .o) d)
+    ∙ sym access ∙ c .before .before .if3 .left)
     ∙ rw off)
+
+sub-permits : tie.Need-sub-permits
+sub-permits c = search needs
+
+part-permits-start : tie.Need-part-permits-start
+part-permits-start c = search needs
+
+part-permits-end : tie.Need-part-permits-end
+part-permits-end c = search needs
 
 permits-requires : tie.Need-permits-requires
 permits-requires c κs =
-    let start = c .before .before .before .before .before .before .before .before in
+    let start = c .before .before .before .before .before .before .before .before .before .before in
     let t = tablesOf (now (start .args .t)) in
-    let are-declared = c .before .before .before .before .before .are-declared in
-    let if2 = c .before .before .before .before .if2 in
+    let are-declared = c .before .before .before .before .before .before .before .are-declared in
     let known =
     known-both (personDeclared t (start .args .s)) (folderDeclared t (start .args .o))
-    (are-declared .result) (are-declared .ensures) (if2 .left) in
-    (start .pre .size, known .1, omega arith)
+    (are-declared .result) (are-declared .ensures) (c .before .before .before .before .before .before .if2 .left) in
+    rw whole-part (start .pre .size, known .1, omega arith)
 
 returns-5 : tie.Need-returns-5
 returns-5 c =
-    let start = c .before .before .before .before .before .before .before .before .before .before in
+    let start = c .before .before .before .before .before .before .before .before .before .before .before .before in
     let t = tablesOf (now (start .args .t)) in
-    let are-declared = c .before .before .before .before .before .before .before .are-declared in
-    let if2 = c .before .before .before .before .before .before .if2 in
-    let first-test = c .before .before .before .in-force in
-    let if4 = c .before .before .if4 in
-    let judge-step-access = c .before .before .before .before .before .judge-step-access in
-    let if3 = c .before .before .before .before .if3 in
-    let call-permits = c .before .permits in
+    let are-declared = c .before .before .before .before .before .before .before .before .before .are-declared in
     let known =
     known-both (personDeclared t (start .args .s)) (folderDeclared t (start .args .o))
-    (are-declared .result) (are-declared .ensures) (if2 .left) in
+    (are-declared .result) (are-declared .ensures) (c .before .before .before .before .before .before .before .before .if2 .left) in
     let d = step-declared t (start .args .s) (start .args .p) (start .args .o) (known .0) (omega arith) (known .1) in
-    let on : inForce t 3 ≡ true = (sym (first-test .ensures) ∙ not-false _ (if4 .left)) in
+    let access = rw whole-part at (c .before .before .before .before .before .before .judge-step-access .ensures) in
+    let permits = rw whole-part at (c .before .permits .ensures) in
+    let on : inForce t 3 ≡ true =
+    sym (c .before .before .before .before .in-force .ensures) ∙ not-false _ (c .before .before .before .if4 .left) in
     sym
-    (then-pipeline t (setOf (now (start .args .h))) _ _ _ d (sym (step-number t (setOf (now
-    (start .args .h))) (start .pre .tables) (start .args .s) (start .args .p) (start .args .o) d) ∙ sym (judge-step-access .ensures)
-    ∙ if3 .left)
-    ∙ rw (on, ← call-permits .ensures, c .if5 .taken))
+    (then-pipeline t (setOf (now (start .args .h))) _ _ _ d
+    (sym (step-number t (setOf (now (start .args .h))) (start .pre .tables) (start .args .s) (start .args .p) (start .args .o) d)
+    ∙ sym access ∙ c .before .before .before .before .before .if3 .left)
+    ∙ rw (on, ← permits, c .if5 .taken))
 
 returns-6 : tie.Need-returns-6
 returns-6 c =
-    let start = c .before .before .before .before .before .before .before .before .before .before in
+    let start = c .before .before .before .before .before .before .before .before .before .before .before .before in
     let t = tablesOf (now (start .args .t)) in
-    let are-declared = c .before .before .before .before .before .before .before .are-declared in
-    let if2 = c .before .before .before .before .before .before .if2 in
-    let first-test = c .before .before .before .in-force in
-    let if4 = c .before .before .if4 in
-    let judge-step-access = c .before .before .before .before .before .judge-step-access in
-    let if3 = c .before .before .before .before .if3 in
-    let call-permits = c .before .permits in
+    let are-declared = c .before .before .before .before .before .before .before .before .before .are-declared in
     let known =
     known-both (personDeclared t (start .args .s)) (folderDeclared t (start .args .o))
-    (are-declared .result) (are-declared .ensures) (if2 .left) in
+    (are-declared .result) (are-declared .ensures) (c .before .before .before .before .before .before .before .before .if2 .left) in
     let d = step-declared t (start .args .s) (start .args .p) (start .args .o) (known .0) (omega arith) (known .1) in
-    let on : inForce t 3 ≡ true = (sym (first-test .ensures) ∙ not-false _ (if4 .left)) in
+    let access = rw whole-part at (c .before .before .before .before .before .before .judge-step-access .ensures) in
+    let permits = rw whole-part at (c .before .permits .ensures) in
+    let on : inForce t 3 ≡ true =
+    sym (c .before .before .before .before .in-force .ensures) ∙ not-false _ (c .before .before .before .if4 .left) in
     sym
-    (then-pipeline t (setOf (now (start .args .h))) _ _ _ d (sym (step-number t (setOf (now
-    (start .args .h))) (start .pre .tables) (start .args .s) (start .args .p) (start .args .o) d) ∙ sym (judge-step-access .ensures)
-    ∙ if3 .left)
-    ∙ rw (on, ← call-permits .ensures, c .if5 .left))
+    (then-pipeline t (setOf (now (start .args .h))) _ _ _ d
+    (sym (step-number t (setOf (now (start .args .h))) (start .pre .tables) (start .args .s) (start .args .p) (start .args .o) d)
+    ∙ sym access ∙ c .before .before .before .before .before .if3 .left)
+    ∙ rw (on, ← permits, c .if5 .left))
 
 pub judge-step-spec : {M : Type 1} → statement M
 judge-step-spec =
@@ -151,10 +158,16 @@ judge-step-spec =
     returns
     are-declared-requires
     returns-2
+    sub-judge-step-access
+    part-judge-step-access-start
+    part-judge-step-access-end
     judge-step-access-requires
     returns-3
     in-force-requires
     returns-4
+    sub-permits
+    part-permits-start
+    part-permits-end
     permits-requires
     returns-5
     returns-6)

@@ -1,5 +1,4 @@
 -- `with_declared` adds the number where the entry is declared.
-use mathlib.Core.Path.{_∙_, sym, ap}
 use borrow.Author.Needs.{needs}
 use Rattle.packing.proofs.with_declared.Statement.{statement}
 use Rattle.packing.proofs.with_declared.Tie as tie

@@ -7,7 +7,6 @@ use Rattle.request.proofs.parse.Statement.{statement}
 use Rattle.request.proofs.parse.Tie as tie
 use Rattle.request.proofs.parse.Reads as reads
 use Rattle.request.proofs.parse.Lts as lts
-use Rattle.request.proofs.parse_access.Reads as parse-access-reads
 use Rattle.request.proofs.parse_step.Reads as parse-step-reads
 
 returns : tie.Need-returns
@@ -25,8 +24,11 @@ shared-slice-read-t11 c = search needs
 parse-step-requires : tie.Need-parse-step-requires
 parse-step-requires c κs = search needs
 
-parse-access-requires : tie.Need-parse-access-requires
-parse-access-requires c κs = search needs
+shared-slice-read-t15 : tie.Need-shared-slice-read-t15
+shared-slice-read-t15 c = search needs
+
+shared-slice-read-t17 : tie.Need-shared-slice-read-t17
+shared-slice-read-t17 c = search needs
 
 returns-2 : tie.Need-returns-2
 returns-2 c = sym (is-start _ (omega arith) (omega arith))
@@ -38,7 +40,7 @@ returns-4 : tie.Need-returns-4
 returns-4 c = sym (is-unknown _ (omega arith) (omega arith) (omega arith) (omega arith) (omega arith))
 
 returns-5 : tie.Need-returns-5
-returns-5 c = c .parse-access .ensures ∙ sym (is-access _ (omega arith) (omega arith) (omega arith))
+returns-5 c = sym (is-access _ (omega arith) (omega arith) (omega arith))
 
 returns-6 : tie.Need-returns-6
 returns-6 c = sym (is-unknown _ (omega arith) (omega arith) (omega arith) (omega arith) (omega arith))
@@ -52,7 +54,8 @@ parse-spec =
     shared-slice-read-t9
     shared-slice-read-t11
     parse-step-requires
-    parse-access-requires
+    shared-slice-read-t15
+    shared-slice-read-t17
     returns-2
     returns-3
     returns-4

@@ -1,5 +1,5 @@
--- `records::read` goes through the checks in their order: each refusal gives the number of the first that fails, and the record that passes
--- them all is read whole.
+-- `records::read` goes through the checks in their order: each refusal gives the number of the first that fails, and the record that
+-- passes them all is read whole.
 use Prim.Native.Nat.{ℕ, _+_}
 use mathlib.Core.Bool.{true, false}
 use mathlib.Core.Path.{refl, sym, ap, _∙_}
