@@ -1,6 +1,7 @@
 // Bits of numbers, bit 0 lowest. The number of a bit is taken modulo the width, as a shift takes it, so each function is total.
 ghost use mathlib.Core.Path.{_≡_};
-ghost use Prim.Native.Nat.{_%_};
+ghost use mathlib.Core.Bool.{cond};
+ghost use Prim.Native.Nat.{_%_, _<_};
 ghost use Rattle.bits.specs.Bits.{bit, withBit, withoutBit};
 ghost use Rattle.bits.specs.Bounded.{countBelow, lowestBelow};
 
@@ -44,6 +45,37 @@ pub fn with_bit64(n: u64, k: usize) -> u64
     ensures { λ r. ⌜ r ≡ withBit n (k % 64) ⌝ }
 {
     n | (1 << (k % 64))
+}
+
+// n, with bit k set if `add`.
+pub fn with_bit64_if(add: bool, n: u64, k: usize) -> u64
+    ensures { λ r. ⌜ r ≡ cond add (withBit n (k % 64)) n ⌝ }
+{
+    if add {
+        return with_bit64(n, k);
+    }
+    n
+}
+
+// A byte as an index.
+pub fn wide(x: u8) -> usize
+    ensures { λ r. ⌜ (r ≡ x) × (r < 256) ⌝ }
+{
+    x as usize
+}
+
+// A byte as a word.
+pub fn word8(x: u8) -> u64
+    ensures { λ r. ⌜ (r ≡ x) × (r < 256) ⌝ }
+{
+    x as u64
+}
+
+// A number of 16 bits as a word.
+pub fn word16(n: u16) -> u64
+    ensures { λ r. ⌜ (r ≡ n) × (r < 65536) ⌝ }
+{
+    n as u64
 }
 
 // How many bits of n are set.

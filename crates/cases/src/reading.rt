@@ -23,13 +23,6 @@ pub fn front(named: usize, s: &[u8]) -> usize
     least(named, s.len())
 }
 
-// A byte as a number.
-fn wide(x: u8) -> usize
-    ensures { λ r. ⌜ r < 256 ⌝ }
-{
-    x as usize
-}
-
 // The bytes from a place on.
 pub fn after(s: &[u8], at: usize) -> &[u8] {
     let from = least(at, s.len());
@@ -41,7 +34,7 @@ pub fn pair(s: &[u8], at: usize) -> usize
     ensures { λ r. ⌜ r < 65536 ⌝ }
 {
     let t = after(s, at);
-    wide(byte(t, 0)) + 256 * wide(byte(t, 1))
+    bits::wide(byte(t, 0)) + 256 * bits::wide(byte(t, 1))
 }
 
 // The number of eight bytes at a place, the lowest first.
@@ -61,8 +54,8 @@ fn needed(s: &[u8]) -> usize {
     match byte(s, 0) {
         1 => 3 + pair(s, 1),
         2 => 3,
-        3 => 4 + wide(byte(s, 3)),
-        4 => 4 + wide(byte(s, 3)),
+        3 => 4 + bits::wide(byte(s, 3)),
+        4 => 4 + bits::wide(byte(s, 3)),
         5 => 7 + pair(s, 5),
         6 => 4,
         7 => 11,

@@ -1,7 +1,6 @@
 // The calls of the access monitor for programs in C and Rust: byte slices and numbers only. Tables do not cross this boundary; a call
 // that needs them takes the bytes of the rulebook and loads it. A refused book is answered with its number, and then nothing changes.
 ghost use mathlib.Core.Path.{_≡_};
-ghost use Prim.Native.Nat.{_<_};
 ghost use lib.ListN.{length};
 ghost use Rattle.policy.specs.Rulebook.{loadBook};
 ghost use Rattle.policy.specs.Calls.{blankNumber, blankHistory, restOf};
@@ -20,40 +19,28 @@ ghost use Rattle.exports.specs.Packed.{
 // The number of a book that loads.
 const LOADED: u8 = 0;
 
-// A byte as a number of 64 bits.
-fn wide(x: u8) -> u64
-    ensures { λ r. ⌜ (r ≡ x) × (r < 256) ⌝ }
-{
-    x as u64
-}
-
-// A level as a number of 64 bits.
-fn wide_level(x: u16) -> u64
-    ensures { λ r. ⌜ (r ≡ x) × (r < 65536) ⌝ }
-{
-    x as u64
-}
-
 // Number in bits 0 to 7, offset modulo 2^56 in bits 8 to 63.
 fn pack_load(number: u8, offset: usize) -> u64
     ensures { λ r. ⌜ r ≡ packedLoad number offset ⌝ }
 {
-    wide(number) + 256 * (offset as u64 % 72057594037927936)
+    bits::word8(number) + 256 * (offset as u64 % 72057594037927936)
 }
 
 // Number in bits 0 to 7, the counts modulo 2^24 in bits 8 to 31 and 32 to 55.
 fn pack_run(number: u8, granted: usize, refused: usize) -> u64
     ensures { λ r. ⌜ r ≡ packedRun number granted refused ⌝ }
 {
-    wide(number) + 256 * (granted as u64 % 16777216) + 4294967296 * (refused as u64 % 16777216)
+    bits::word8(number)
+        + 256 * (granted as u64 % 16777216)
+        + 4294967296 * (refused as u64 % 16777216)
 }
 
 // Number in bits 0 to 7, level in bits 8 to 23, the counts modulo 2^8 in bits 24 to 31 and 32 to 39.
 fn pack_standing(number: u8, level: u16, rights: u32, firms: u32) -> u64
     ensures { λ r. ⌜ r ≡ packedStanding number level rights firms ⌝ }
 {
-    wide(number)
-        + 256 * wide_level(level)
+    bits::word8(number)
+        + 256 * bits::word16(level)
         + 16777216 * (rights as u64 % 256)
         + 4294967296 * (firms as u64 % 256)
 }

@@ -23,19 +23,15 @@ pub fn bit_at(h: &[u8], i: usize) -> bool
     bits::bit8(h[at], i)
 }
 
-// A byte as a number of 64 bits.
-fn wide(x: u8) -> u64
-    ensures { λ r. ⌜ (r ≡ x) × (r < 256) ⌝ }
-{
-    x as u64
-}
-
 // The 32 bits that the four bytes from a place on hold.
 fn half_at(h: &[u8], at: usize) -> u64
     requires { ⌜ at + 4 ≤ length (now h) ⌝ }
     ensures { λ r. ⌜ (r ≡ halfAt (now (h .entry)) at) × (r < 4294967296) ⌝ }
 {
-    wide(h[at]) + 256 * (wide(h[at + 1]) + 256 * (wide(h[at + 2]) + 256 * wide(h[at + 3])))
+    bits::word8(h[at])
+        + 256
+            * (bits::word8(h[at + 1])
+                + 256 * (bits::word8(h[at + 2]) + 256 * bits::word8(h[at + 3])))
 }
 
 // The 64 bits that the eight bytes from a place on hold.

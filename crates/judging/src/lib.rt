@@ -2,13 +2,10 @@
 ghost use mathlib.Core.Path.{_≡_};
 ghost use mathlib.Core.Bool.{true, false, cond, _&&_};
 ghost use Prim.Native.Nat.{_+_, _<_};
-ghost use lib.ListN.{length};
-ghost use Rattle.bits.specs.Bits.{maskBelow};
 ghost use Rattle.bits.specs.Bounded.{_⇒_};
 ghost use Rattle.level.specs.Levels.{atMost};
 ghost use Rattle.policy.specs.Tables.{folderAt, personDeclared, folderDeclared, inForce};
 ghost use Rattle.policy.specs.Rulebook.{given};
-ghost use Rattle.policy.specs.History.{historyBytes};
 ghost use Rattle.policy.specs.Request.{start, step, setOf};
 ghost use Rattle.policy.specs.Rules.{currentLevel};
 ghost use Rattle.policy.specs.Calls.{judgeOver};
@@ -36,13 +33,6 @@ pub const LOW_WATER: u8 = 15;
 pub const ROLES: u8 = 16;
 
 pub const PIPELINE: u8 = 17;
-
-// A byte as an index.
-fn wide(x: u8) -> usize
-    ensures { λ r. ⌜ (r ≡ x) × (r < 256) ⌝ }
-{
-    x as usize
-}
 
 // Whether a write, if it is one, to a folder of one level by a person at another is permitted by low-water.
 fn level_permits(write: bool, folder: Level, person: Level) -> bool
@@ -143,9 +133,9 @@ fn access_right(write: bool, kind: u8) -> usize
     ensures { λ r. ⌜ r ≡ accessRight write kind ⌝ }
 {
     if write {
-        return 16 + wide(kind);
+        return 16 + bits::wide(kind);
     }
-    wide(kind)
+    bits::wide(kind)
 }
 
 // A read of folder o by person s, or a write. The history is lent on as a part, which costs less than as a whole: its place need not be
@@ -349,13 +339,19 @@ pub fn judge_next(t: &Words, h: &[u8], bytes: &[u8]) -> Judged
             write,
             person,
             folder,
-        } => access_at(t, h, wide(person), wide(folder), write),
-        Parsed::Start { person, second } => start_at(t, h, wide(person), wide(second)),
+        } => access_at(t, h, bits::wide(person), bits::wide(folder), write),
+        Parsed::Start { person, second } => start_at(t, h, bits::wide(person), bits::wide(second)),
         Parsed::Step {
             person,
             step,
             folder,
-        } => step_at(t, h, wide(person), wide(step), wide(folder)),
+        } => step_at(
+            t,
+            h,
+            bits::wide(person),
+            bits::wide(step),
+            bits::wide(folder),
+        ),
     }
 }
 
@@ -371,12 +367,23 @@ pub fn judge_bytes(t: &Words, h: &[u8], bytes: &[u8]) -> u8
             write,
             person,
             folder,
-        } => judge_access(t, h, wide(person), wide(folder), write),
-        Parsed::Start { person, second } => judge_start(t, h, wide(person), wide(second)),
+        } => judge_access(t, h, bits::wide(person), bits::wide(folder), write),
+        Parsed::Start { person, second } => judge_start(
+            t,
+            h,
+            bits::wide(person),
+            bits::wide(second),
+        ),
         Parsed::Step {
             person,
             step,
             folder,
-        } => judge_step(t, h, wide(person), wide(step), wide(folder)),
+        } => judge_step(
+            t,
+            h,
+            bits::wide(person),
+            bits::wide(step),
+            bits::wide(folder),
+        ),
     }
 }

@@ -135,13 +135,6 @@ fn no_standing(number: u8) -> Standing
     }
 }
 
-// A byte as an index.
-fn wide(x: u8) -> usize
-    ensures { λ r. ⌜ (r ≡ x) × (r < 256) ⌝ }
-{
-    x as usize
-}
-
 // A person's current level, the number of rights used and the number of firms opened.
 pub fn standing(t: Tables, h: &[u8], person: u8) -> Standing
     ensures { λ r. ⌜ r ≡ standingOf t (now (h .entry)) person ⌝ }
@@ -151,7 +144,7 @@ pub fn standing(t: Tables, h: &[u8], person: u8) -> Standing
         return no_standing(number);
     }
     let words = packing::pack(t);
-    let s = wide(person);
+    let s = bits::wide(person);
     if !packed::is_person(&words, s) {
         return no_standing(judging::UNDECLARED);
     }

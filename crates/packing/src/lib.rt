@@ -3,7 +3,7 @@ ghost use mathlib.Core.Path.{_≡_};
 ghost use mathlib.Core.Bool.{cond};
 ghost use Prim.Native.Nat.{_<_, _%_};
 ghost use lib.ListN.{length};
-ghost use Rattle.bits.specs.Bits.{withBit, maskBelow};
+ghost use Rattle.bits.specs.Bits.{maskBelow};
 ghost use Rattle.policy.specs.Tables.{firmAt, personAt, folderAt, roleAt, enabledBy, personDeclared, roleDeclared};
 ghost use Rattle.packed.specs.Packed.{folderOf, firmOf, levelIn, tablesOf};
 ghost use Rattle.packing.specs.Filling.{Filled};
@@ -12,20 +12,6 @@ use policy::Firm;
 use policy::Folder;
 use policy::Person;
 use policy::Tables;
-
-// A byte as a word.
-fn wide(x: u8) -> u64
-    ensures { λ r. ⌜ (r ≡ x) × (r < 256) ⌝ }
-{
-    x as u64
-}
-
-// A number of 16 bits as a word.
-fn wide_level(x: u16) -> u64
-    ensures { λ r. ⌜ (r ≡ x) × (r < 65536) ⌝ }
-{
-    x as u64
-}
 
 // A mark as a word: 1 for a declared entry.
 fn mark(declared: bool) -> u64
@@ -39,7 +25,10 @@ fn folder_word(e: Folder) -> u64
     ensures { λ r. ⌜ folderOf r ≡ e ⌝ }
 {
     let level = e.level;
-    mark(e.declared) + 256 * wide(e.firm) + 65536 * wide(e.kind) + 16777216 * wide_level(level.0)
+    mark(e.declared)
+        + 256 * bits::word8(e.firm)
+        + 65536 * bits::word8(e.kind)
+        + 16777216 * bits::word16(level.0)
 }
 
 // The word of a person's level.
@@ -47,14 +36,14 @@ fn level_word(e: Person) -> u64
     ensures { λ r. ⌜ levelIn r ≡ e .level ⌝ }
 {
     let level = e.level;
-    wide_level(level.0)
+    bits::word16(level.0)
 }
 
 // The word of a firm.
 fn firm_word(e: Firm) -> u64
     ensures { λ r. ⌜ firmOf r ≡ e ⌝ }
 {
-    mark(e.declared) + 256 * wide(e.class)
+    mark(e.declared) + 256 * bits::word8(e.class)
 }
 
 // The folders.
@@ -103,18 +92,7 @@ fn put_steps(t: Tables, w: &mut Words)
     ensures { λ r. ⌜ Filled 288 16 (λ p x. x % 65536 ≡ enabledBy t p) (now (w .entry)) (now (w .exit)) ⌝ }
 {
     for p in 0..16 {
-        w[288 + p] = wide_level(t.steps[p]);
-    }
-}
-
-// The set, with number k where the entry is declared.
-fn with_declared(set: u64, declared: bool, k: usize) -> u64
-    ensures { λ r. ⌜ r ≡ cond declared (withBit set (k % 64)) set ⌝ }
-{
-    if declared {
-        bits::with_bit64(set, k)
-    } else {
-        set
+        w[288 + p] = bits::word16(t.steps[p]);
     }
 }
 
@@ -124,7 +102,7 @@ fn declared_persons(t: Tables) -> u64
 {
     let mut set: u64 = 0;
     for s in 0..64 {
-        set = with_declared(set, t.persons[s].declared, s);
+        set = bits::with_bit64_if(t.persons[s].declared, set, s);
     }
     set
 }
@@ -135,7 +113,7 @@ fn declared_roles(t: Tables) -> u64
 {
     let mut set: u64 = 0;
     for k in 0..32 {
-        set = with_declared(set, t.roles[k].declared, k);
+        set = bits::with_bit64_if(t.roles[k].declared, set, k);
     }
     set
 }
@@ -150,7 +128,7 @@ pub fn pack(t: Tables) -> Words
     put_firms(t, &mut w);
     put_rights(t, &mut w);
     put_steps(t, &mut w);
-    w[304] = wide(t.mask);
+    w[304] = bits::word8(t.mask);
     w[305] = declared_persons(t);
     w[306] = declared_roles(t);
     w

@@ -16,7 +16,7 @@ ghost use Rattle.policy.specs.Request.{read, write, index, setOf};
 ghost use Rattle.policy.specs.Rules.{currentLevel};
 ghost use Rattle.packed.specs.Packed.{tablesOf};
 ghost use Rattle.past.specs.Past.{pastBelow, pastOf};
-ghost use Rattle.past.specs.Turns.{InBounds, FolderInBounds, isUntouched, withBitIf, levelIf, stepAt, rightsOf};
+ghost use Rattle.past.specs.Turns.{InBounds, FolderInBounds, isUntouched, levelIf, stepAt, rightsOf};
 ghost use Rattle.past.specs.Turns.{partsAfter, levelOver, pastAfter, startByteAt, started};
 use level::Level;
 use packed::Words;
@@ -27,17 +27,6 @@ pub struct Past {
     pub level: Level,
     pub rights: u64,
     pub firms: u64,
-}
-
-// n, with bit k set if `add`.
-fn with_bit_if(add: bool, n: u64, k: usize) -> u64
-    requires { ⌜ k < 64 ⌝ }
-    ensures { λ r. ⌜ r ≡ withBitIf add n k ⌝ }
-{
-    if add {
-        return bits::with_bit64(n, k);
-    }
-    n
 }
 
 // A person's level after a folder of a level, which lowers it if it was read.
@@ -86,7 +75,7 @@ fn rights_of(read: bool, wrote: bool, steps: u16, kind: usize) -> u64
     ensures { λ r. ⌜ r ≡ rightsOf read wrote steps kind ⌝ }
 {
     let applied = (steps as u64) << 48;
-    with_bit_if(wrote, with_bit_if(read, applied, kind), 16 + kind)
+    bits::with_bit64_if(wrote, bits::with_bit64_if(read, applied, kind), 16 + kind)
 }
 
 // Whether a person neither read nor wrote a folder, and applied no step to it.
@@ -209,7 +198,7 @@ pub fn past_of(t: &Words, h: &[u8], s: usize) -> Past
     let low = past_over(t, h, s, 0, none);
     let past = past_over(t, h, s, 64, low);
     let level = past.level;
-    let rights = with_bit_if(has_started(t, h, s), past.rights, 32);
+    let rights = bits::with_bit64_if(has_started(t, h, s), past.rights, 32);
     Past {
         level: level,
         rights: rights,

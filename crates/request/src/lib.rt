@@ -97,13 +97,6 @@ pub fn step_index(s: usize, p: usize, o: usize) -> usize
     20480 + 64 * (16 * o + p) + s
 }
 
-// A byte as an index.
-fn wide(x: u8) -> usize
-    ensures { λ r. ⌜ (r ≡ x) × (r < 256) ⌝ }
-{
-    x as usize
-}
-
 // The index of the request's bit in a history; 0 for none.
 pub fn request_index(r: Parsed) -> usize
     ensures { λ n. ⌜ n ≡ indexOf (asRequest r) ⌝ }
@@ -114,12 +107,12 @@ pub fn request_index(r: Parsed) -> usize
             write,
             person,
             folder,
-        } => access_index(write, wide(person), wide(folder)),
-        Parsed::Start { person, second } => start_index(wide(person), wide(second)),
+        } => access_index(write, bits::wide(person), bits::wide(folder)),
+        Parsed::Start { person, second } => start_index(bits::wide(person), bits::wide(second)),
         Parsed::Step {
             person,
             step,
             folder,
-        } => step_index(wide(person), wide(step), wide(folder)),
+        } => step_index(bits::wide(person), bits::wide(step), bits::wide(folder)),
     }
 }

@@ -1,7 +1,6 @@
 // The wall and the roles (document 01, "Four rules"), over the tables and the sets of what a person did.
 ghost use mathlib.Core.Path.{_≡_};
 ghost use mathlib.Core.Bool.{true};
-ghost use Prim.Native.Nat.{_<_};
 ghost use Rattle.policy.specs.Tables.{folderDeclared};
 ghost use Rattle.policy.specs.Rulebook.{given};
 ghost use Rattle.packed.specs.Packed.{tablesOf};
@@ -9,13 +8,6 @@ ghost use Rattle.rules.specs.Sets.{isRival, wallBy, covers, rolesBy};
 use packed::Words;
 use policy::Firm;
 use policy::Role;
-
-// A byte as an index.
-fn wide(x: u8) -> usize
-    ensures { λ r. ⌜ (r ≡ x) × (r < 256) ⌝ }
-{
-    x as usize
-}
 
 // Whether firm f, which has this entry, is one of the firms and of the class.
 fn is_rival(e: Firm, firms: u64, f: usize, class: u8) -> bool
@@ -34,7 +26,7 @@ pub fn wall_permits(t: &Words, firms: u64, o: usize) -> bool
     ensures { λ r. ⌜ r ≡ wallBy (tablesOf (now (t .entry))) firms o ⌝ }
 {
     let e = packed::folder(t, o);
-    let firm = wide(e.firm);
+    let firm = bits::wide(e.firm);
     if bits::bit64(firms, firm) {
         return true;
     }

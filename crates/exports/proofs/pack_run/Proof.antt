@@ -5,10 +5,10 @@ use Rattle.exports.proofs.pack_run.Statement.{statement}
 use Rattle.exports.proofs.pack_run.Tie as tie
 use Rattle.exports.proofs.pack_run.Reads as reads
 use Rattle.exports.proofs.pack_run.Lts as lts
-use Rattle.exports.proofs.wide.Reads as wide-reads
+use Rattle.bits.proofs.word8.Reads as word8-reads
 
-wide-requires : tie.Need-wide-requires
-wide-requires c κs = search needs
+word8-requires : tie.Need-word8-requires
+word8-requires c κs = search needs
 
 mul-result : tie.Need-mul-result
 mul-result c = search needs
@@ -28,4 +28,4 @@ returns c = search needs
 
 pub pack-run-spec : {M : Type 1} → statement M
 pack-run-spec =
-    tie.close (tie.spec wide-requires mul-result add-result mul-result-2 add-result-2 returns)
+    tie.close (tie.spec word8-requires mul-result add-result mul-result-2 add-result-2 returns)

@@ -5,14 +5,14 @@ use Rattle.exports.proofs.pack_standing.Statement.{statement}
 use Rattle.exports.proofs.pack_standing.Tie as tie
 use Rattle.exports.proofs.pack_standing.Reads as reads
 use Rattle.exports.proofs.pack_standing.Lts as lts
-use Rattle.exports.proofs.wide.Reads as wide-reads
-use Rattle.exports.proofs.wide_level.Reads as wide-level-reads
+use Rattle.bits.proofs.word8.Reads as word8-reads
+use Rattle.bits.proofs.word16.Reads as word16-reads
 
-wide-requires : tie.Need-wide-requires
-wide-requires c κs = search needs
+word8-requires : tie.Need-word8-requires
+word8-requires c κs = search needs
 
-wide-level-requires : tie.Need-wide-level-requires
-wide-level-requires c κs = search needs
+word16-requires : tie.Need-word16-requires
+word16-requires c κs = search needs
 
 mul-result : tie.Need-mul-result
 mul-result c = search needs
@@ -40,8 +40,8 @@ pub pack-standing-spec : {M : Type 1} → statement M
 pack-standing-spec =
     tie.close
     (tie.spec
-    wide-requires
-    wide-level-requires
+    word8-requires
+    word16-requires
     mul-result
     add-result
     mul-result-2

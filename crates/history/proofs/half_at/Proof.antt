@@ -6,40 +6,40 @@ use Rattle.history.proofs.half_at.Statement.{statement}
 use Rattle.history.proofs.half_at.Tie as tie
 use Rattle.history.proofs.half_at.Reads as reads
 use Rattle.history.proofs.half_at.Lts as lts
-use Rattle.history.proofs.wide.Reads as wide-reads
+use Rattle.bits.proofs.word8.Reads as word8-reads
 
-shared-slice-read-wide : tie.Need-shared-slice-read-wide
-shared-slice-read-wide c = search needs
+shared-slice-read-word8 : tie.Need-shared-slice-read-word8
+shared-slice-read-word8 c = search needs
 
-wide-requires : tie.Need-wide-requires
-wide-requires c κs = search needs
+word8-requires : tie.Need-word8-requires
+word8-requires c κs = search needs
 
-add-wide : tie.Need-add-wide
-add-wide c = search needs
+add-word8 : tie.Need-add-word8
+add-word8 c = search needs
 
-shared-slice-read-wide-2 : tie.Need-shared-slice-read-wide-2
-shared-slice-read-wide-2 c = search needs
+shared-slice-read-word8-2 : tie.Need-shared-slice-read-word8-2
+shared-slice-read-word8-2 c = search needs
 
-wide-requires-2 : tie.Need-wide-requires-2
-wide-requires-2 c κs = search needs
+word8-requires-2 : tie.Need-word8-requires-2
+word8-requires-2 c κs = search needs
 
-add-wide-2 : tie.Need-add-wide-2
-add-wide-2 c = search needs
+add-word8-2 : tie.Need-add-word8-2
+add-word8-2 c = search needs
 
-shared-slice-read-wide-3 : tie.Need-shared-slice-read-wide-3
-shared-slice-read-wide-3 c = search needs
+shared-slice-read-word8-3 : tie.Need-shared-slice-read-word8-3
+shared-slice-read-word8-3 c = search needs
 
-wide-requires-3 : tie.Need-wide-requires-3
-wide-requires-3 c κs = search needs
+word8-requires-3 : tie.Need-word8-requires-3
+word8-requires-3 c κs = search needs
 
-add-wide-3 : tie.Need-add-wide-3
-add-wide-3 c = search needs
+add-word8-3 : tie.Need-add-word8-3
+add-word8-3 c = search needs
 
-shared-slice-read-wide-4 : tie.Need-shared-slice-read-wide-4
-shared-slice-read-wide-4 c = search needs
+shared-slice-read-word8-4 : tie.Need-shared-slice-read-word8-4
+shared-slice-read-word8-4 c = search needs
 
-wide-requires-4 : tie.Need-wide-requires-4
-wide-requires-4 c κs = search needs
+word8-requires-4 : tie.Need-word8-requires-4
+word8-requires-4 c κs = search needs
 
 mul-result : tie.Need-mul-result
 mul-result c = search needs
@@ -67,17 +67,17 @@ pub half-at-spec : {M : Type 1} → statement M
 half-at-spec =
     tie.close
     (tie.spec
-    shared-slice-read-wide
-    wide-requires
-    add-wide
-    shared-slice-read-wide-2
-    wide-requires-2
-    add-wide-2
-    shared-slice-read-wide-3
-    wide-requires-3
-    add-wide-3
-    shared-slice-read-wide-4
-    wide-requires-4
+    shared-slice-read-word8
+    word8-requires
+    add-word8
+    shared-slice-read-word8-2
+    word8-requires-2
+    add-word8-2
+    shared-slice-read-word8-3
+    word8-requires-3
+    add-word8-3
+    shared-slice-read-word8-4
+    word8-requires-4
     mul-result
     add-result
     mul-result-2

@@ -5,7 +5,7 @@ use Rattle.judging.proofs.access_right.Statement.{statement}
 use Rattle.judging.proofs.access_right.Tie as tie
 use Rattle.judging.proofs.access_right.Reads as reads
 use Rattle.judging.proofs.access_right.Lts as lts
-use Rattle.judging.proofs.wide.Reads as wide-reads
+use Rattle.bits.proofs.wide.Reads as wide-reads
 
 wide-requires : tie.Need-wide-requires
 wide-requires c κs = search needs

@@ -9,7 +9,7 @@ use Rattle.judging.proofs.judge_bytes.Lts as lts
 use Rattle.judging.proofs.judge_access.Reads as judge-access-reads
 use Rattle.judging.proofs.judge_start.Reads as judge-start-reads
 use Rattle.judging.proofs.judge_step.Reads as judge-step-reads
-use Rattle.judging.proofs.wide.Reads as wide-reads
+use Rattle.bits.proofs.wide.Reads as wide-reads
 use Rattle.request.proofs.parse.Reads as parse-reads
 
 parse-requires : tie.Need-parse-requires

@@ -8,7 +8,7 @@ use Rattle.judging.proofs.judge_next.Lts as lts
 use Rattle.judging.proofs.access_at.Reads as access-at-reads
 use Rattle.judging.proofs.start_at.Reads as start-at-reads
 use Rattle.judging.proofs.step_at.Reads as step-at-reads
-use Rattle.judging.proofs.wide.Reads as wide-reads
+use Rattle.bits.proofs.wide.Reads as wide-reads
 use Rattle.request.proofs.parse.Reads as parse-reads
 
 parse-requires : tie.Need-parse-requires

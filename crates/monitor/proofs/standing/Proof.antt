@@ -14,7 +14,7 @@ use Rattle.monitor.proofs.standing.Lts as lts
 use Rattle.bits.proofs.count64.Reads as count64-reads
 use Rattle.monitor.proofs.checked.Reads as checked-reads
 use Rattle.monitor.proofs.no_standing.Reads as no-standing-reads
-use Rattle.monitor.proofs.wide.Reads as wide-reads
+use Rattle.bits.proofs.wide.Reads as wide-reads
 use Rattle.packed.proofs.is_person.Reads as is-person-reads
 use Rattle.packing.proofs.pack.Reads as pack-reads
 use Rattle.past.proofs.past_of.Reads as past-of-reads

@@ -11,7 +11,7 @@ use Rattle.packing.proofs.declared_persons.Statement.{statement}
 use Rattle.packing.proofs.declared_persons.Tie as tie
 use Rattle.packing.proofs.declared_persons.Reads as reads
 use Rattle.packing.proofs.declared_persons.Lts as lts
-use Rattle.packing.proofs.with_declared.Reads as with-declared-reads
+use Rattle.bits.proofs.with_bit64_if.Reads as with-bit64-if-reads
 
 abbrev Inv-loop : tie.InvT-loop
 Inv-loop t set₀ s₀ set s = (s ≤ 64) × (set ≡ maskBelow s (personDeclared t))
@@ -22,14 +22,14 @@ abbrev μ-loop : tie.MeasureT-loop
 loop-holds : tie.Need-loop-holds Inv-loop μ-loop
 loop-holds c = (search needs, sym (mask-start _))
 
-mul-with-declared : tie.Need-mul-with-declared Inv-loop μ-loop
-mul-with-declared c = search needs
+mul-with-bit64-if : tie.Need-mul-with-bit64-if Inv-loop μ-loop
+mul-with-bit64-if c = search needs
 
-element-copy-out-with-declared : tie.Need-element-copy-out-with-declared Inv-loop μ-loop
-element-copy-out-with-declared c = search needs
+element-copy-out-with-bit64-if : tie.Need-element-copy-out-with-bit64-if Inv-loop μ-loop
+element-copy-out-with-bit64-if c = search needs
 
-with-declared-requires : tie.Need-with-declared-requires Inv-loop μ-loop
-with-declared-requires c κs = search needs
+with-bit64-if-requires : tie.Need-with-bit64-if-requires Inv-loop μ-loop
+with-bit64-if-requires c κs = search needs
 
 add-s : tie.Need-add-s Inv-loop μ-loop
 add-s c = search needs
@@ -45,7 +45,7 @@ loop-again c =
     let s = loop .s in
     let own : s % 64 ≡ s = omega arith in
     let entry : personDeclared t s ≡ personAt t s .declared = rw (lt-ltb s 64 (omega arith)) in
-    (search needs, mask-step s (personDeclared t) (loop .inv .1) (c .with-declared .ensures ∙ rw (own, entry)))
+    (search needs, mask-step s (personDeclared t) (loop .inv .1) (c .with-bit64-if .ensures ∙ rw (own, entry)))
 
 returns : tie.Need-returns Inv-loop μ-loop
 returns c =
@@ -60,9 +60,9 @@ declared-persons-spec =
     Inv-loop
     μ-loop
     loop-holds
-    mul-with-declared
-    element-copy-out-with-declared
-    with-declared-requires
+    mul-with-bit64-if
+    element-copy-out-with-bit64-if
+    with-bit64-if-requires
     add-s
     loop-less
     loop-again

@@ -11,7 +11,7 @@ use Rattle.packing.proofs.declared_roles.Statement.{statement}
 use Rattle.packing.proofs.declared_roles.Tie as tie
 use Rattle.packing.proofs.declared_roles.Reads as reads
 use Rattle.packing.proofs.declared_roles.Lts as lts
-use Rattle.packing.proofs.with_declared.Reads as with-declared-reads
+use Rattle.bits.proofs.with_bit64_if.Reads as with-bit64-if-reads
 
 abbrev Inv-loop : tie.InvT-loop
 Inv-loop t set₀ k₀ set k = (k ≤ 32) × (set ≡ maskBelow k (roleDeclared t))
@@ -22,14 +22,14 @@ abbrev μ-loop : tie.MeasureT-loop
 loop-holds : tie.Need-loop-holds Inv-loop μ-loop
 loop-holds c = (search needs, sym (mask-start _))
 
-mul-with-declared : tie.Need-mul-with-declared Inv-loop μ-loop
-mul-with-declared c = search needs
+mul-with-bit64-if : tie.Need-mul-with-bit64-if Inv-loop μ-loop
+mul-with-bit64-if c = search needs
 
-element-copy-out-with-declared : tie.Need-element-copy-out-with-declared Inv-loop μ-loop
-element-copy-out-with-declared c = search needs
+element-copy-out-with-bit64-if : tie.Need-element-copy-out-with-bit64-if Inv-loop μ-loop
+element-copy-out-with-bit64-if c = search needs
 
-with-declared-requires : tie.Need-with-declared-requires Inv-loop μ-loop
-with-declared-requires c κs = search needs
+with-bit64-if-requires : tie.Need-with-bit64-if-requires Inv-loop μ-loop
+with-bit64-if-requires c κs = search needs
 
 add-k : tie.Need-add-k Inv-loop μ-loop
 add-k c = search needs
@@ -45,7 +45,7 @@ loop-again c =
     let k = loop .k in
     let own : k % 64 ≡ k = omega arith in
     let entry : roleDeclared t k ≡ roleAt t k .declared = rw (lt-ltb k 32 (omega arith)) in
-    (search needs, mask-step k (roleDeclared t) (loop .inv .1) (c .with-declared .ensures ∙ rw (own, entry)))
+    (search needs, mask-step k (roleDeclared t) (loop .inv .1) (c .with-bit64-if .ensures ∙ rw (own, entry)))
 
 returns : tie.Need-returns Inv-loop μ-loop
 returns c =
@@ -60,9 +60,9 @@ declared-roles-spec =
     Inv-loop
     μ-loop
     loop-holds
-    mul-with-declared
-    element-copy-out-with-declared
-    with-declared-requires
+    mul-with-bit64-if
+    element-copy-out-with-bit64-if
+    with-bit64-if-requires
     add-k
     loop-less
     loop-again

@@ -15,7 +15,7 @@ use Rattle.packing.proofs.put_folders.Reads as put-folders-reads
 use Rattle.packing.proofs.put_levels.Reads as put-levels-reads
 use Rattle.packing.proofs.put_rights.Reads as put-rights-reads
 use Rattle.packing.proofs.put_steps.Reads as put-steps-reads
-use Rattle.packing.proofs.wide.Reads as wide-reads
+use Rattle.bits.proofs.word8.Reads as word8-reads
 
 put-folders-requires : tie.Need-put-folders-requires
 put-folders-requires c κs = search needs
@@ -32,8 +32,8 @@ put-rights-requires c κs = search needs
 put-steps-requires : tie.Need-put-steps-requires
 put-steps-requires c κs = search needs
 
-wide-requires : tie.Need-wide-requires
-wide-requires c κs = search needs
+word8-requires : tie.Need-word8-requires
+word8-requires c κs = search needs
 
 array-write-w : tie.Need-array-write-w
 array-write-w c = search needs
@@ -71,7 +71,7 @@ returns c =
       roles = sym (length-map (start .args .t .roles) _) ∙ good .1 .1 .1 .1 .1 .1 .0 .1 .0 .1;
       steps = sym (length-map (start .args .t .steps) _) ∙ good .1 .1 .1 .1 .1 .1 .1 .0 .1 .0 .1;
     })
-    (c .before .before .wide .ensures) (c .before .declared-persons .ensures) (c .declared-roles .ensures)
+    (c .before .before .word8 .ensures) (c .before .declared-persons .ensures) (c .declared-roles .ensures)
 
 pub pack-spec : {M : Type 1} → statement M
 pack-spec =
@@ -82,7 +82,7 @@ pack-spec =
     put-firms-requires
     put-rights-requires
     put-steps-requires
-    wide-requires
+    word8-requires
     array-write-w
     declared-persons-requires
     array-write-w-2

@@ -11,7 +11,7 @@ use Rattle.packing.proofs.put_steps.Statement.{statement}
 use Rattle.packing.proofs.put_steps.Tie as tie
 use Rattle.packing.proofs.put_steps.Reads as reads
 use Rattle.packing.proofs.put_steps.Lts as lts
-use Rattle.packing.proofs.wide_level.Reads as wide-level-reads
+use Rattle.bits.proofs.word16.Reads as word16-reads
 
 -- a number of 16 bits is its own rest
 small : {r x : ℕ} → (r ≡ x) × (r < 65536) → r % 65536 ≡ x
@@ -26,14 +26,14 @@ abbrev μ-loop : tie.MeasureT-loop
 loop-holds : tie.Need-loop-holds Inv-loop μ-loop
 loop-holds c = (search needs, fill-none 288 _ _)
 
-mul-wide-level : tie.Need-mul-wide-level Inv-loop μ-loop
-mul-wide-level c = search needs
+mul-word16 : tie.Need-mul-word16 Inv-loop μ-loop
+mul-word16 c = search needs
 
-element-copy-out-wide-level : tie.Need-element-copy-out-wide-level Inv-loop μ-loop
-element-copy-out-wide-level c = search needs
+element-copy-out-word16 : tie.Need-element-copy-out-word16 Inv-loop μ-loop
+element-copy-out-word16 c = search needs
 
-wide-level-requires : tie.Need-wide-level-requires Inv-loop μ-loop
-wide-level-requires c κs = search needs
+word16-requires : tie.Need-word16-requires Inv-loop μ-loop
+word16-requires c κs = search needs
 
 add-w : tie.Need-add-w Inv-loop μ-loop
 add-w c = search needs
@@ -55,7 +55,7 @@ loop-again c =
     let loop = c .before .before .before .loop in
     let start = c .before .before .before .before in
     let room : 288 + loop .p < length (start .args .w .now) = omega (arith, start .pre) in
-    (search needs, fill-more 288 (loop .p) _ _ _ _ (loop .inv .1) room (small (c .wide-level .ensures)))
+    (search needs, fill-more 288 (loop .p) _ _ _ _ (loop .inv .1) room (small (c .word16 .ensures)))
 
 returns : tie.Need-returns Inv-loop μ-loop
 returns c =
@@ -70,9 +70,9 @@ put-steps-spec =
     Inv-loop
     μ-loop
     loop-holds
-    mul-wide-level
-    element-copy-out-wide-level
-    wide-level-requires
+    mul-word16
+    element-copy-out-word16
+    word16-requires
     add-w
     mul-w
     element-write-w

@@ -22,7 +22,7 @@ use Rattle.past.proofs.past_of.Lts as lts
 use Rattle.packed.proofs.person.Reads as person-reads
 use Rattle.past.proofs.has_started.Reads as has-started-reads
 use Rattle.past.proofs.past_over.Reads as past-over-reads
-use Rattle.past.proofs.with_bit_if.Reads as with-bit-if-reads
+use Rattle.bits.proofs.with_bit64_if.Reads as with-bit64-if-reads
 
 -- the answer, of what was gathered on all folders
 answer : (t : Tables) (h : List ℕ) (s : ℕ) → personDeclared t s ≡ true → (gathered : Past) (rights : ℕ) (starts : Bool)
@@ -48,8 +48,8 @@ has-started-requires c κs =
     let start = c .before .before .before .before .before .before in
     (start .pre .0, person-below _ _ (start .pre .2))
 
-with-bit-if-requires : tie.Need-with-bit-if-requires
-with-bit-if-requires c κs = search needs
+with-bit64-if-requires : tie.Need-with-bit64-if-requires
+with-bit64-if-requires c κs = search needs
 
 returns : tie.Need-returns
 returns c =
@@ -57,8 +57,8 @@ returns c =
     let args = start .args in
     let folders = c .before .before .before .past-over2 in
     let starts = c .before .has-started in
-    answer (tablesOf (now (args .t))) (now (args .h)) (args .s) (start .pre .2) (folders .result) (c .with-bit-if .result)
-    (starts .result) (folders .ensures) (starts .ensures) (c .with-bit-if .ensures)
+    answer (tablesOf (now (args .t))) (now (args .h)) (args .s) (start .pre .2) (folders .result) (c .with-bit64-if .result)
+    (starts .result) (folders .ensures) (starts .ensures) (c .with-bit64-if .ensures)
 
 pub past-of-spec : {M : Type 1} → statement M
 past-of-spec =
@@ -68,5 +68,5 @@ past-of-spec =
     past-over-requires
     past-over-requires-2
     has-started-requires
-    with-bit-if-requires
+    with-bit64-if-requires
     returns)

@@ -9,24 +9,26 @@ use Rattle.past.specs.Turns.{withBitIf, rightsOf}
 use Rattle.past.proofs.rights_of.Statement.{statement}
 use Rattle.past.proofs.rights_of.Tie as tie
 
-with-bit-if-requires : tie.Need-with-bit-if-requires
-with-bit-if-requires c κs = search needs
+with-bit64-if-requires : tie.Need-with-bit64-if-requires
+with-bit64-if-requires c κs = search needs
 
-add-with-bit-if : tie.Need-add-with-bit-if
-add-with-bit-if c = search needs
+add-with-bit64-if : tie.Need-add-with-bit64-if
+add-with-bit64-if c = search needs
 
-with-bit-if-requires-2 : tie.Need-with-bit-if-requires-2
-with-bit-if-requires-2 c κs = search needs
+with-bit64-if-requires-2 : tie.Need-with-bit64-if-requires-2
+with-bit64-if-requires-2 c κs = search needs
 
 returns : tie.Need-returns
 unfolding rightsOf
 returns c =
     let args = c .before .before .args in
     let shifted : args .steps * 2 ^ 48 % 2 ^ 64 ≡ args .steps * 2 ^ 48 = shl-exact 16 48 64 (omega arith) (lit≤ tt) in
-    c .with-bit-if2 .ensures
+    let kind : args .kind % 64 ≡ args .kind = omega arith in
+    let above : (16 + args .kind) % 64 ≡ 16 + args .kind = omega arith in
+    rw above at (c .with-bit64-if2 .ensures)
     ∙ ap (λ (n : ℕ). withBitIf (args .wrote) n (16 + args .kind))
-    (c .before .with-bit-if .ensures ∙ ap (λ (n : ℕ). withBitIf (args .read) n (args .kind)) shifted)
+    (rw kind at (c .before .with-bit64-if .ensures) ∙ ap (λ (n : ℕ). withBitIf (args .read) n (args .kind)) shifted)
 
 pub rights-of-spec : {M : Type 1} → statement M
 rights-of-spec =
-    tie.close (tie.spec with-bit-if-requires add-with-bit-if with-bit-if-requires-2 returns)
+    tie.close (tie.spec with-bit64-if-requires add-with-bit64-if with-bit64-if-requires-2 returns)

@@ -9,7 +9,7 @@ use Rattle.request.proofs.request_index.Lts as lts
 use Rattle.request.proofs.access_index.Reads as access-index-reads
 use Rattle.request.proofs.start_index.Reads as start-index-reads
 use Rattle.request.proofs.step_index.Reads as step-index-reads
-use Rattle.request.proofs.wide.Reads as wide-reads
+use Rattle.bits.proofs.wide.Reads as wide-reads
 
 enum-told : tie.Need-enum-told
 enum-told c = search needs

@@ -21,7 +21,7 @@ use Rattle.bits.proofs.bit64.Reads as bit64-reads
 use Rattle.packed.proofs.firm.Reads as firm-reads
 use Rattle.packed.proofs.folder.Reads as folder-reads
 use Rattle.rules.proofs.is_rival.Reads as is-rival-reads
-use Rattle.rules.proofs.wide.Reads as wide-reads
+use Rattle.bits.proofs.wide.Reads as wide-reads
 
 abbrev Inv-loop : tie.InvT-loop
 Inv-loop t firms o firm class f₀ f = (f ≤ 64) × (anyBelow f (rivalAmong (tablesOf t) firms class) ≡ false)
