@@ -45,7 +45,7 @@ use Rattle.judging.specs.Judging.{
   numberOf,
   asksPast,
   asksLevel,
-  isFree,
+  isUnasked,
   accessRight,
   accessNumber,
   judged,
@@ -240,12 +240,12 @@ module _ (t : Tables) (H : Request → Bool) where
     step-number s p o d = ap (numberOf t (wallAccess t H s o) true) (roles-by t H s ok (step s p o) d refl)
 
 -- an access that no rule in force asks about
-pub free-access : (t : Tables) (H : Request → Bool) (writes : Bool) (s o : ℕ) → given t ≡ true → isFree t s o writes ≡ true
+pub unasked-access : (t : Tables) (H : Request → Bool) (writes : Bool) (s o : ℕ) → given t ≡ true → isUnasked t s o writes ≡ true
     → judged t H (accessBy writes s o) ≡ 0
-unfolding isFree
-free-access t H writes s o ok free =
-    let unasked-by = and-left _ _ free in
-    let known = and-right (not (asksPast t) && not (asksLevel t writes)) _ free in
+unfolding isUnasked
+unasked-access t H writes s o ok test =
+    let unasked-by = and-left _ _ test in
+    let known = and-right (not (asksPast t) && not (asksLevel t writes)) _ test in
     access-number t H ok writes s o (and-left _ _ known) (and-right (personDeclared t s) _ known)
     ∙ unasked t H s o _ (not-true _ (and-left _ _ unasked-by)) writes (not-true _ (and-right (not (asksPast t)) _ unasked-by))
 

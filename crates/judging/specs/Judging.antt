@@ -38,8 +38,8 @@ unfoldable pub asksLevel : Tables → Bool → Bool
 asksLevel t writes = writes && inForce t 1
 
 -- an access by person s to folder o is granted with no look at what the person did
-unfoldable pub isFree : Tables → ℕ → ℕ → Bool → Bool
-isFree t s o writes = (not (asksPast t) && not (asksLevel t writes)) && (personDeclared t s && folderDeclared t o)
+unfoldable pub isUnasked : Tables → ℕ → ℕ → Bool → Bool
+isUnasked t s o writes = (not (asksPast t) && not (asksLevel t writes)) && (personDeclared t s && folderDeclared t o)
 
 -- the right of a write to a folder of a kind, or of a read
 unfoldable pub accessRight : Bool → ℕ → ℕ

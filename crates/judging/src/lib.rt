@@ -12,7 +12,7 @@ ghost use Rattle.policy.specs.Calls.{judgeOver};
 ghost use Rattle.packed.specs.Packed.{tablesOf};
 ghost use Rattle.request.specs.Parsed.{accessBy};
 ghost use Rattle.rules.specs.Sets.{wallBy, rolesBy};
-ghost use Rattle.judging.specs.Judging.{Ready, numberOf, asksPast, asksLevel, isFree, accessRight, accessNumber, judged};
+ghost use Rattle.judging.specs.Judging.{Ready, numberOf, asksPast, asksLevel, isUnasked, accessRight, accessNumber, judged};
 ghost use Rattle.judging.specs.Judging.{Answered, AnsweredAt};
 use level::Level;
 use packed::Words;
@@ -255,8 +255,8 @@ pub struct Judged {
 }
 
 // Whether a read of folder o by person s, or a write, is granted with no look at what the person did: no rule in force asks about it.
-fn is_free(t: &Words, s: usize, o: usize, write: bool) -> bool
-    ensures { λ r. ⌜ r ≡ isFree (tablesOf (now (t .entry))) s o write ⌝ }
+fn is_unasked(t: &Words, s: usize, o: usize, write: bool) -> bool
+    ensures { λ r. ⌜ r ≡ isUnasked (tablesOf (now (t .entry))) s o write ⌝ }
 {
     if asks_past(t) {
         return false;
@@ -267,12 +267,12 @@ fn is_free(t: &Words, s: usize, o: usize, write: bool) -> bool
     are_declared(t, s, o)
 }
 
-// The number of a read of folder o by person s, or of a write. A free one is granted here, in the loop of a run, and costs no call.
+// The number of a read of folder o by person s, or of a write. One that no rule asks about is granted here, with no call.
 fn access_number(t: &Words, h: &[u8], s: usize, o: usize, write: bool) -> u8
     requires { ⌜ Ready (tablesOf (now t)) (now h) ⌝ }
     ensures { λ r. ⌜ r ≡ judged (tablesOf (now (t .entry))) (setOf (now (h .entry))) (accessBy write s o) ⌝ }
 {
-    if is_free(t, s, o, write) {
+    if is_unasked(t, s, o, write) {
         return GRANTED;
     }
     judge_access(t, h, s, o, write)

@@ -30,7 +30,25 @@ use Rattle.level.proofs.LevelLaws.{split}
 use Rattle.policy.specs.declared.Tables.{Tables}
 use Rattle.policy.specs.Tables.{personAt, folderAt, roleAt, enables, roleDeclared, classOf}
 use Rattle.policy.specs.Request.{Request, read, write, start, step, subject}
-use Rattle.policy.specs.Rules.{right, someRequest, did, accessed, opened, otherClass, wallAccess, wall, loweredBy, currentLevel, lowWater, roleCovers, roles, done, leadsTo, pipelineStep, pipeline}
+use Rattle.policy.specs.Rules.{
+  right,
+  someRequest,
+  did,
+  accessed,
+  opened,
+  otherClass,
+  wallAccess,
+  wall,
+  loweredBy,
+  currentLevel,
+  lowWater,
+  roleCovers,
+  roles,
+  done,
+  leadsTo,
+  pipelineStep,
+  pipeline,
+}
 use Rattle.policy.specs.Published.{
   Access,
   InHistory,

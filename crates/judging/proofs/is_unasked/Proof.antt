@@ -1,10 +1,10 @@
--- `is_free` is the test of the rules that may ask and of both parties, one after the other.
-use Rattle.judging.specs.Judging.{isFree}
+-- `is_unasked` is the test of the rules that may ask and of both parties, one after the other.
+use Rattle.judging.specs.Judging.{isUnasked}
 use borrow.Author.Needs.{needs}
-use Rattle.judging.proofs.is_free.Statement.{statement}
-use Rattle.judging.proofs.is_free.Tie as tie
-use Rattle.judging.proofs.is_free.Reads as reads
-use Rattle.judging.proofs.is_free.Lts as lts
+use Rattle.judging.proofs.is_unasked.Statement.{statement}
+use Rattle.judging.proofs.is_unasked.Tie as tie
+use Rattle.judging.proofs.is_unasked.Reads as reads
+use Rattle.judging.proofs.is_unasked.Lts as lts
 use Rattle.judging.proofs.are_declared.Reads as are-declared-reads
 use Rattle.judging.proofs.asks_level.Reads as asks-level-reads
 use Rattle.judging.proofs.asks_past.Reads as asks-past-reads
@@ -13,14 +13,14 @@ asks-past-requires : tie.Need-asks-past-requires
 asks-past-requires c κs = search needs
 
 returns : tie.Need-returns
-unfolding isFree
+unfolding isUnasked
 returns c = rw (← c .before .asks-past .ensures, c .if1 .taken)
 
 asks-level-requires : tie.Need-asks-level-requires
 asks-level-requires c κs = search needs
 
 returns-2 : tie.Need-returns-2
-unfolding isFree
+unfolding isUnasked
 returns-2 c =
     let past = c .before .before .before .asks-past .ensures in
     rw (← past, c .before .before .if1 .left, ← c .before .asks-level .ensures, c .if2 .taken)
@@ -29,14 +29,14 @@ are-declared-requires : tie.Need-are-declared-requires
 are-declared-requires c κs = search needs
 
 returns-3 : tie.Need-returns-3
-unfolding isFree
+unfolding isUnasked
 returns-3 c =
     let past = c .before .before .before .before .asks-past .ensures in
     let level = c .before .before .asks-level .ensures in
     rw (← past, c .before .before .before .if1 .left, ← level, c .before .if2 .left) (c .are-declared .ensures)
 
-pub is-free-spec : {M : Type 1} → statement M
-is-free-spec =
+pub is-unasked-spec : {M : Type 1} → statement M
+is-unasked-spec =
     tie.close
     (tie.spec
     asks-past-requires
