@@ -3,6 +3,7 @@
 use libc::STDIN_FILENO;
 use libc::STDOUT_FILENO;
 use policy::Tables;
+use policy::numbers;
 
 // The most bytes of input that are taken.
 const LIMIT: usize = 65536;
@@ -21,7 +22,7 @@ fn print_lines(answers: &[u8]) {
 
 // Puts the requests from a blank history, and prints the answers and the totals.
 fn print_answers(t: Tables, requests: &[u8]) {
-    let mut history = [0u8; 18944];
+    let mut history = [0u8; history::BYTES];
     let mut answers = [0u8; 21846];
     monitor::blank(&mut history);
     let ran = monitor::run(t, &mut history, requests, &mut answers);
@@ -35,7 +36,7 @@ fn print_answers(t: Tables, requests: &[u8]) {
 // Prints what the input comes to: a refused book, or the answers to its requests.
 fn answer(input: &[u8]) {
     let loaded = monitor::load(input);
-    if loaded.number != 0 {
+    if loaded.number != numbers::GRANTED {
         let mut out = [0u8; 64];
         let len = report::put_book_refused(loaded.number, loaded.offset, &mut out);
         io::write_all(STDOUT_FILENO, &out[..len]);

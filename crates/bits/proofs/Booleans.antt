@@ -3,7 +3,7 @@
 use mathlib.Core.Path.{_≡_, refl, sym}
 use mathlib.Core.Logic.{_⊎_, inl, inr}
 use mathlib.Core.Bool.{Bool, true, false, cond, _&&_, _||_, false≢true}
-use Rattle.bits.specs.Bounded.{_⇒_}
+use Rattle.bits.specs.Bounded.{_implies_}
 
 -- ---- and
 
@@ -50,11 +50,11 @@ or-swap false b c = refl
 
 -- ---- if .. then
 
-pub implies-elim : (a b : Bool) → (a ⇒ b) ≡ true → a ≡ true → b ≡ true
+pub implies-elim : (a b : Bool) → (a implies b) ≡ true → a ≡ true → b ≡ true
 implies-elim true b h p = h
 implies-elim false b h p = absurd (false≢true p)
 
-pub implies-intro : (a b : Bool) → (a ≡ true → b ≡ true) → (a ⇒ b) ≡ true
+pub implies-intro : (a b : Bool) → (a ≡ true → b ≡ true) → (a implies b) ≡ true
 implies-intro true b h = h refl
 implies-intro false b h = refl
 

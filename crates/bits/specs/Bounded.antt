@@ -28,7 +28,7 @@ lowestBelow zero p = 0
 lowestBelow (suc n) p = cond (p 0) 0 (suc (lowestBelow n (λ k. p (suc k))))
 
 -- if a, then b
-infixr 25 _⇒_
-abbrev pub _⇒_ : Bool → Bool → Bool
-true ⇒ b = b
-false ⇒ b = true
+infixr 25 _implies_
+abbrev pub _implies_ : Bool → Bool → Bool
+true implies b = b
+false implies b = true

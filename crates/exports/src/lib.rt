@@ -15,9 +15,7 @@ ghost use Rattle.exports.specs.Packed.{
   standingPacked,
   standingBy,
 };
-
-// The number of a book that loads.
-const LOADED: u8 = 0;
+use policy::numbers;
 
 // Number in bits 0 to 7, offset modulo 2^56 in bits 8 to 63.
 fn pack_load(number: u8, offset: usize) -> u64
@@ -79,7 +77,7 @@ pub extern "C" fn kweldabe_judge(book: &[u8], history: &[u8], request: &[u8]) ->
     ensures { λ r. ⌜ r ≡ judgeBy (loadBook (now (book .entry))) (now (history .entry)) (now (request .entry)) ⌝ }
 {
     let loaded = monitor::load(book);
-    if loaded.number != LOADED {
+    if loaded.number != numbers::GRANTED {
         return loaded.number;
     }
     monitor::judge(loaded.tables, history, request)
@@ -94,7 +92,7 @@ pub extern "C" fn kweldabe_put(book: &[u8], history: &mut [u8], request: &[u8]) 
         ⌝ }
 {
     let loaded = monitor::load(book);
-    if loaded.number != LOADED {
+    if loaded.number != numbers::GRANTED {
         return loaded.number;
     }
     monitor::put(loaded.tables, history, request)
@@ -114,7 +112,7 @@ pub extern "C" fn kweldabe_run(
         ⌝ }
 {
     let loaded = monitor::load(book);
-    if loaded.number != LOADED {
+    if loaded.number != numbers::GRANTED {
         return pack_run(loaded.number, 0, 0);
     }
     let ran = monitor::run(loaded.tables, history, requests, answers);
@@ -129,7 +127,7 @@ pub extern "C" fn kweldabe_standing(book: &[u8], history: &[u8], person: u8) -> 
         ⌝ }
 {
     let loaded = monitor::load(book);
-    if loaded.number != LOADED {
+    if loaded.number != numbers::GRANTED {
         return pack_standing(loaded.number, 0, 0, 0);
     }
     let found = monitor::standing(loaded.tables, history, person);

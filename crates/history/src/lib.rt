@@ -5,12 +5,10 @@ ghost use lib.ListN.{length};
 ghost use Rattle.policy.specs.History.{bitAt, withBitAt};
 ghost use Rattle.policy.specs.Calls.{blankNumber, blankHistory};
 ghost use Rattle.history.specs.Words.{halfAt, wordAt};
+use policy::numbers;
 
 // The bytes of a history.
 pub const BYTES: usize = 18944;
-
-// The number of the refusal of a history that has not BYTES bytes.
-pub const WRONG_LENGTH: u8 = 10;
 
 // Whether the bit of index i is set; past the end none is.
 pub fn bit_at(h: &[u8], i: usize) -> bool
@@ -53,17 +51,17 @@ pub fn set_bit(h: &mut [u8], i: usize)
     h[at] = bits::with_bit8(h[at], i);
 }
 
-// Makes a history blank: 0, or WRONG_LENGTH, and then nothing changes.
+// Makes a history blank: 0, or 10 where the length is another, and then nothing changes.
 pub fn blank(h: &mut [u8]) -> u8
     ensures { λ r. ⌜ (r ≡ blankNumber (now (h .entry))) × (now (h .exit) ≡ blankHistory (now (h .entry))) ⌝ }
 {
     if h.len() != BYTES {
-        return WRONG_LENGTH;
+        return numbers::WRONG_LENGTH;
     }
     let mut i = 0;
     while i < h.len() {
         h[i] = 0;
         i += 1;
     }
-    0
+    numbers::GRANTED
 }

@@ -11,13 +11,22 @@ use lib.ListN.{length, take}
 use borrow.Rule.Slice.PartAt.{part-to-end}
 use borrow.Author.Tests.{not-true, not-false}
 use Rattle.bits.specs.Bits.{maskBelow}
-use Rattle.bits.specs.Bounded.{_⇒_}
+use Rattle.bits.specs.Bounded.{_implies_}
 use Rattle.bits.proofs.Booleans.{and-left, and-right, and-both, false-intro, false-elim}
 use Rattle.level.specs.Levels.{atMost}
 use Rattle.policy.specs.declared.Folder.{Folder}
 use Rattle.policy.specs.declared.Tables.{Tables}
 use Rattle.policy.specs.Checks.{ladder}
-use Rattle.policy.specs.Tables.{folderAt, personDeclared, folderDeclared, inForce}
+use Rattle.policy.specs.Tables.{
+  folderAt,
+  personDeclared,
+  folderDeclared,
+  inForce,
+  wallRule,
+  lowWaterRule,
+  rolesRule,
+  pipelineRule,
+}
 use Rattle.policy.specs.Rulebook.{given}
 use Rattle.policy.specs.Request.{Request, read, write, start, step, subject, requestOf}
 use Rattle.policy.specs.Rules.{
@@ -59,28 +68,28 @@ whole-part h = part-to-end h 0
 
 -- ---- a rule in force or not
 
-pub implies-true : (b : Bool) → (b ⇒ true) ≡ true
+pub implies-true : (b : Bool) → (b implies true) ≡ true
 implies-true true = refl
 implies-true false = refl
 
 -- a rule that is not in force, or permits, lets pass
-pub passes : (b w : Bool) → ((b ≡ true) × (w ≡ true)) ⊎ (b ≡ false) → (b ⇒ w) ≡ true
+pub passes : (b w : Bool) → ((b ≡ true) × (w ≡ true)) ⊎ (b ≡ false) → (b implies w) ≡ true
 passes b w (inl h) = rw (h .0) (h .1)
 passes b w (inr n) = rw n
 
-pub refuses : (b w : Bool) → b ≡ true → w ≡ false → (b ⇒ w) ≡ false
+pub refuses : (b w : Bool) → b ≡ true → w ≡ false → (b implies w) ≡ false
 refuses b w p q = rw p q
 
 -- the test of the levels, by the entry that was read: of a write or not, of a write, and of another access
-pub level-test : (writes : Bool) (own : ℕ) {e f : Folder} {r : Bool} → e ≡ f → r ≡ (writes ⇒ atMost 12 (e .level .0) own)
-    → (writes ⇒ atMost 12 (f .level .0) own) ≡ r
-level-test writes own same test = sym (test ∙ ap (λ (x : Folder). writes ⇒ atMost 12 (x .level .0) own) same)
+pub level-test : (writes : Bool) (own : ℕ) {e f : Folder} {r : Bool} → e ≡ f → r ≡ (writes implies atMost 12 (e .level .0) own)
+    → (writes implies atMost 12 (f .level .0) own) ≡ r
+level-test writes own same test = sym (test ∙ ap (λ (x : Folder). writes implies atMost 12 (x .level .0) own) same)
 
 pub level-written : {writes r : Bool} {own current : ℕ} {e f : Folder} → writes ≡ true → e ≡ f → own ≡ current
-    → r ≡ atMost 12 (e .level .0) own → (writes ⇒ atMost 12 (f .level .0) current) ≡ r
+    → r ≡ atMost 12 (e .level .0) own → (writes implies atMost 12 (f .level .0) current) ≡ r
 level-written w same level test = rw (w, ← same, ← level) (sym test)
 
-pub level-unwritten : (writes b : Bool) → writes ≡ false → (writes ⇒ b) ≡ true
+pub level-unwritten : (writes b : Bool) → writes ≡ false → (writes implies b) ≡ true
 level-unwritten writes b w = rw w
 
 -- a test of two that does not fail
@@ -90,26 +99,26 @@ known-both a b r e n = let both = sym e ∙ not-false r n in (and-left a b both,
 -- ---- the three rules of an access
 
 module _ (t : Tables) (w l r : Bool) where
-  pub number-wall : (inForce t 0 ⇒ w) ≡ false → numberOf t w l r ≡ 14
+  pub number-wall : (inForce t wallRule implies w) ≡ false → numberOf t w l r ≡ 14
   unfolding numberOf ladder
   number-wall a = rw a
 
-  pub number-level : (inForce t 0 ⇒ w) ≡ true → (inForce t 1 ⇒ l) ≡ false → numberOf t w l r ≡ 15
+  pub number-level : (inForce t wallRule implies w) ≡ true → (inForce t lowWaterRule implies l) ≡ false → numberOf t w l r ≡ 15
   unfolding numberOf ladder
   number-level a b = rw (a, b)
 
-  pub number-roles : (inForce t 0 ⇒ w) ≡ true → (inForce t 1 ⇒ l) ≡ true → (inForce t 2 ⇒ r) ≡ false → numberOf t w l r ≡ 16
+  pub number-roles : (inForce t wallRule implies w) ≡ true → (inForce t lowWaterRule implies l) ≡ true → (inForce t rolesRule implies r) ≡ false → numberOf t w l r ≡ 16
   unfolding numberOf ladder
   number-roles a b c = rw (a, b, c)
 
-  pub number-none : (inForce t 0 ⇒ w) ≡ true → (inForce t 1 ⇒ l) ≡ true → (inForce t 2 ⇒ r) ≡ true → numberOf t w l r ≡ 0
+  pub number-none : (inForce t wallRule implies w) ≡ true → (inForce t lowWaterRule implies l) ≡ true → (inForce t rolesRule implies r) ≡ true → numberOf t w l r ≡ 0
   unfolding numberOf ladder
   number-none a b c = rw (a, b, c)
 
 -- low-water alone, where the wall permits and roles are not in force
-pub number-alone : (t : Tables) (l r : Bool) → inForce t 1 ≡ true → inForce t 2 ≡ false → numberOf t true l r ≡ cond l 0 15
+pub number-alone : (t : Tables) (l r : Bool) → inForce t lowWaterRule ≡ true → inForce t rolesRule ≡ false → numberOf t true l r ≡ cond l 0 15
 unfolding numberOf ladder
-number-alone t l r on off = rw (on, off, implies-true (inForce t 0))
+number-alone t l r on off = rw (on, off, implies-true (inForce t wallRule))
 
 -- without the wall and roles, low-water decides: a write by the levels, and another access is granted
 neither : (a b : Bool) → a || b ≡ false → (a ≡ false) × (b ≡ false)
@@ -119,14 +128,14 @@ neither false b e = (refl, e)
 module _ (t : Tables) (H : Request → Bool) (s o new : ℕ) (off : asksPast t ≡ false) where
   level-decides : (writes : Bool)
       → accessNumber t H s o new writes
-      ≡ cond (inForce t 1 ⇒ (writes ⇒ atMost 12 (folderAt t o .level .0) (currentLevel t H s))) 0 15
+      ≡ cond (inForce t lowWaterRule implies (writes implies atMost 12 (folderAt t o .level .0) (currentLevel t H s))) 0 15
   unfolding asksPast accessNumber numberOf ladder
-  level-decides writes = let (a, b) = neither (inForce t 0) (inForce t 2) off in rw (a, b)
+  level-decides writes = let (a, b) = neither (inForce t wallRule) (inForce t rolesRule) off in rw (a, b)
 
   pub unasked : (writes : Bool) → asksLevel t writes ≡ false → accessNumber t H s o new writes ≡ 0
   unfolding asksLevel
   unasked true n = level-decides true ∙ rw n
-  unasked false n = level-decides false ∙ rw (implies-true (inForce t 1))
+  unasked false n = level-decides false ∙ rw (implies-true (inForce t lowWaterRule))
 
   pub asked : (writes : Bool) {e : Folder} → asksLevel t writes ≡ true → e ≡ folderAt t o
       → accessNumber t H s o new writes ≡ cond (atMost 12 (e .level .0) (currentLevel t H s)) 0 15
@@ -171,17 +180,17 @@ module _ (t : Tables) (H : Request → Bool) where
   by-three : (r : Request) → declared t r ≡ true → pipeline t H r ≡ true
       → judged t H r ≡ numberOf t (wall t H r) (lowWater t (currentLevel t H) r) (roles t H r)
   unfolding judged requestChecks ladder numberOf
-  by-three r d p = rw (d, p, implies-true (inForce t 3))
+  by-three r d p = rw (d, p, implies-true (inForce t pipelineRule))
 
   -- and before it
   pub then-pipeline : (s p o : ℕ) → declared t (step s p o) ≡ true
       → numberOf t (wall t H (step s p o)) (lowWater t (currentLevel t H) (step s p o)) (roles t H (step s p o)) ≡ 0
-      → judged t H (step s p o) ≡ cond (inForce t 3 ⇒ pipelineStep t H p o) 0 17
+      → judged t H (step s p o) ≡ cond (inForce t pipelineRule implies pipelineStep t H p o) 0 17
   unfolding judged requestChecks ladder numberOf pipeline
   then-pipeline s p o d z =
       rw d
-      (after-zero (inForce t 0 ⇒ wall t H (step s p o)) (inForce t 1 ⇒ lowWater t (currentLevel t H) (step s p o))
-      (inForce t 2 ⇒ roles t H (step s p o)) (cond (inForce t 3 ⇒ pipelineStep t H p o) 0 17) z)
+      (after-zero (inForce t wallRule implies wall t H (step s p o)) (inForce t lowWaterRule implies lowWater t (currentLevel t H) (step s p o))
+      (inForce t rolesRule implies roles t H (step s p o)) (cond (inForce t pipelineRule implies pipelineStep t H p o) 0 17) z)
 
   pub before-pipeline : (s p o n : ℕ) → declared t (step s p o) ≡ true
       → n ≡ numberOf t (wall t H (step s p o)) (lowWater t (currentLevel t H) (step s p o)) (roles t H (step s p o)) → n ≢ 0
@@ -189,21 +198,21 @@ module _ (t : Tables) (H : Request → Bool) where
   unfolding judged requestChecks ladder numberOf
   before-pipeline s p o n d e k =
       rw d
-      (after-refusal (inForce t 0 ⇒ wall t H (step s p o)) (inForce t 1 ⇒ lowWater t (currentLevel t H) (step s p o))
-      (inForce t 2 ⇒ roles t H (step s p o)) (cond (inForce t 3 ⇒ pipeline t H (step s p o)) 0 17) (λ z. k (e ∙ z)))
+      (after-refusal (inForce t wallRule implies wall t H (step s p o)) (inForce t lowWaterRule implies lowWater t (currentLevel t H) (step s p o))
+      (inForce t rolesRule implies roles t H (step s p o)) (cond (inForce t pipelineRule implies pipeline t H (step s p o)) 0 17) (λ z. k (e ∙ z)))
       ∙ sym e
 
   module _ (ok : given t ≡ true) where
     -- what a person did, once it is gathered, decides an access as the definitions do
     pub access-past : (s o new : ℕ) (writes : Bool) (past : Past) → folderDeclared t o ≡ true → past ≡ pastOf t H s
-        → numberOf t (wallBy t (past .firms) o) (writes ⇒ atMost 12 (folderAt t o .level .0) (past .level .0)) (rolesBy t
+        → numberOf t (wallBy t (past .firms) o) (writes implies atMost 12 (folderAt t o .level .0) (past .level .0)) (rolesBy t
         (past .rights) new)
         ≡ accessNumber t H s o new writes
     unfolding accessNumber pastOf
     access-past s o new writes past known e =
         rw e
         (ap
-        (λ (w : Bool). numberOf t w (writes ⇒ atMost 12 (folderAt t o .level .0) (currentLevel t H s))
+        (λ (w : Bool). numberOf t w (writes implies atMost 12 (folderAt t o .level .0) (currentLevel t H s))
         (rolesBy t (maskBelow 64 (used t H s)) new))
         (wall-by t H s ok o known))
 

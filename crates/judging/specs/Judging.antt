@@ -6,11 +6,11 @@ use mathlib.Core.List.{List, [], _∷_}
 use mathlib.Core.Option.{some}
 use lib.ListN.{length}
 use Rattle.bits.specs.Bits.{maskBelow}
-use Rattle.bits.specs.Bounded.{_⇒_}
+use Rattle.bits.specs.Bounded.{_implies_}
 use Rattle.level.specs.Levels.{atMost}
 use Rattle.policy.specs.declared.Tables.{Tables}
 use Rattle.policy.specs.Checks.{_else_, ladder}
-use Rattle.policy.specs.Tables.{folderAt, personDeclared, folderDeclared, inForce}
+use Rattle.policy.specs.Tables.{folderAt, personDeclared, folderDeclared, inForce, wallRule, lowWaterRule, rolesRule}
 use Rattle.policy.specs.Rulebook.{given}
 use Rattle.policy.specs.History.{historyBytes}
 use Rattle.policy.specs.Request.{Request, index, requestOf, recordLength}
@@ -27,15 +27,15 @@ pub record Ready (t : Tables) (h : List ℕ) : Type 0 where
 -- the number of wall, low-water and roles, each by whether it permits
 unfoldable pub numberOf : Tables → Bool → Bool → Bool → ℕ
 numberOf t wall level roles =
-    ladder (((inForce t 0 ⇒ wall) else 14) ∷ ((inForce t 1 ⇒ level) else 15) ∷ ((inForce t 2 ⇒ roles) else 16) ∷ [])
+    ladder (((inForce t wallRule implies wall) else 14) ∷ ((inForce t lowWaterRule implies level) else 15) ∷ ((inForce t rolesRule implies roles) else 16) ∷ [])
 
 -- the wall or roles are in force
 unfoldable pub asksPast : Tables → Bool
-asksPast t = inForce t 0 || inForce t 2
+asksPast t = inForce t wallRule || inForce t rolesRule
 
 -- low-water asks about an access: about a write, if it is in force
 unfoldable pub asksLevel : Tables → Bool → Bool
-asksLevel t writes = writes && inForce t 1
+asksLevel t writes = writes && inForce t lowWaterRule
 
 -- an access by person s to folder o is granted with no look at what the person did
 unfoldable pub isUnasked : Tables → ℕ → ℕ → Bool → Bool
@@ -48,7 +48,7 @@ accessRight writes kind = cond writes (16 + kind) kind
 -- these three for an access by person s to folder o that uses a right, and is a write or not
 unfoldable pub accessNumber : Tables → (Request → Bool) → ℕ → ℕ → ℕ → Bool → ℕ
 accessNumber t H s o right write =
-    numberOf t (wallAccess t H s o) (write ⇒ atMost 12 (folderAt t o .level .0) (currentLevel t H s))
+    numberOf t (wallAccess t H s o) (write implies atMost 12 (folderAt t o .level .0) (currentLevel t H s))
     (rolesBy t (maskBelow 64 (used t H s)) right)
 
 -- the number of a whole request

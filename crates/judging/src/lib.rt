@@ -2,9 +2,9 @@
 ghost use mathlib.Core.Path.{_≡_};
 ghost use mathlib.Core.Bool.{true, false, cond, _&&_};
 ghost use Prim.Native.Nat.{_+_, _<_};
-ghost use Rattle.bits.specs.Bounded.{_⇒_};
+ghost use Rattle.bits.specs.Bounded.{_implies_};
 ghost use Rattle.level.specs.Levels.{atMost};
-ghost use Rattle.policy.specs.Tables.{folderAt, personDeclared, folderDeclared, inForce};
+ghost use Rattle.policy.specs.Tables.{folderAt, personDeclared, folderDeclared, inForce, rolesRule};
 ghost use Rattle.policy.specs.Rulebook.{given};
 ghost use Rattle.policy.specs.Request.{start, step, setOf};
 ghost use Rattle.policy.specs.Rules.{currentLevel};
@@ -17,26 +17,12 @@ ghost use Rattle.judging.specs.Judging.{Answered, AnsweredAt};
 use level::Level;
 use packed::Words;
 use past::Past;
+use policy::numbers;
 use request::Parsed;
-
-// The published numbers of a request.
-pub const GRANTED: u8 = 0;
-
-pub const CUT: u8 = 12;
-
-pub const UNDECLARED: u8 = 13;
-
-pub const WALL: u8 = 14;
-
-pub const LOW_WATER: u8 = 15;
-
-pub const ROLES: u8 = 16;
-
-pub const PIPELINE: u8 = 17;
 
 // Whether a write, if it is one, to a folder of one level by a person at another is permitted by low-water.
 fn level_permits(write: bool, folder: Level, person: Level) -> bool
-    ensures { λ r. ⌜ r ≡ (write ⇒ atMost 12 (folder .0) (person .0)) ⌝ }
+    ensures { λ r. ⌜ r ≡ (write implies atMost 12 (folder .0) (person .0)) ⌝ }
 {
     if write {
         return folder.compare(person);
@@ -49,29 +35,29 @@ fn judge_past(t: &Words, did: Past, o: usize, right: usize, write: bool) -> u8
     requires { ⌜ (given (tablesOf (now t)) ≡ true) × (folderDeclared (tablesOf (now t)) o ≡ true) ⌝ }
     ensures { λ r. ⌜
         r ≡ numberOf (tablesOf (now (t .entry))) (wallBy (tablesOf (now (t .entry))) (did .firms) o)
-        (write ⇒ atMost 12 (folderAt (tablesOf (now (t .entry))) o .level .0) (did .level .0))
+        (write implies atMost 12 (folderAt (tablesOf (now (t .entry))) o .level .0) (did .level .0))
         (rolesBy (tablesOf (now (t .entry))) (did .rights) right)
         ⌝ }
 {
-    if packed::in_force(t, 0) {
+    if packed::in_force(t, policy::WALL_RULE) {
         if !rules::wall_permits(t, did.firms, o) {
-            return WALL;
+            return numbers::WALL;
         }
     }
-    if packed::in_force(t, 1) {
+    if packed::in_force(t, policy::LOW_WATER_RULE) {
         let folder = packed::folder(t, o);
         let own = did.level;
         let other = folder.level;
         if !level_permits(write, other, own) {
-            return LOW_WATER;
+            return numbers::LOW_WATER;
         }
     }
-    if packed::in_force(t, 2) {
+    if packed::in_force(t, policy::ROLES_RULE) {
         if !rules::roles_permit(t, did.rights, right) {
-            return ROLES;
+            return numbers::ROLES;
         }
     }
-    GRANTED
+    numbers::GRANTED
 }
 
 // Wall, low-water and roles for an access by person s to folder o, by what the person did, which is gathered in one pass.
@@ -93,19 +79,19 @@ fn judge_level(t: &Words, h: &[u8], s: usize, level: Level) -> u8
         ⌝ }
 {
     if level.compare(past::current_level(t, h, s)) {
-        return GRANTED;
+        return numbers::GRANTED;
     }
-    LOW_WATER
+    numbers::LOW_WATER
 }
 
 // Whether the wall or roles are in force. Only these two ask for all that a person did.
 fn asks_past(t: &Words) -> bool
     ensures { λ r. ⌜ r ≡ asksPast (tablesOf (now (t .entry))) ⌝ }
 {
-    if packed::in_force(t, 0) {
+    if packed::in_force(t, policy::WALL_RULE) {
         return true;
     }
-    packed::in_force(t, 2)
+    packed::in_force(t, policy::ROLES_RULE)
 }
 
 // Whether low-water asks about an access: about a write, if it is in force.
@@ -113,7 +99,7 @@ fn asks_level(t: &Words, write: bool) -> bool
     ensures { λ r. ⌜ r ≡ asksLevel (tablesOf (now (t .entry))) write ⌝ }
 {
     if write {
-        return packed::in_force(t, 1);
+        return packed::in_force(t, policy::LOW_WATER_RULE);
     }
     false
 }
@@ -145,14 +131,14 @@ fn judge_access(t: &Words, h: &[u8], s: usize, o: usize, write: bool) -> u8
     ensures { λ r. ⌜ r ≡ judged (tablesOf (now (t .entry))) (setOf (now (h .entry))) (accessBy write s o) ⌝ }
 {
     if !are_declared(t, s, o) {
-        return UNDECLARED;
+        return numbers::UNDECLARED;
     }
     let folder = packed::folder(t, o);
     if asks_past(t) {
         return judge_by_past(t, &h[0..], s, o, access_right(write, folder.kind), write);
     }
     if !asks_level(t, write) {
-        return GRANTED;
+        return numbers::GRANTED;
     }
     let level = folder.level;
     judge_level(t, &h[0..], s, level)
@@ -169,7 +155,7 @@ fn judge_step_access(t: &Words, h: &[u8], s: usize, p: usize, o: usize) -> u8
     if asks_past(t) {
         return judge_by_past(t, h, s, o, 48 + p, false);
     }
-    GRANTED
+    numbers::GRANTED
 }
 
 // Step p on folder o by person s. The history is lent on as a part, as in `judge_access`.
@@ -178,22 +164,22 @@ fn judge_step(t: &Words, h: &[u8], s: usize, p: usize, o: usize) -> u8
     ensures { λ r. ⌜ r ≡ judged (tablesOf (now (t .entry))) (setOf (now (h .entry))) (step s p o) ⌝ }
 {
     if p > 15 {
-        return UNDECLARED;
+        return numbers::UNDECLARED;
     }
     if !are_declared(t, s, o) {
-        return UNDECLARED;
+        return numbers::UNDECLARED;
     }
     let n = judge_step_access(t, &h[0..], s, p, o);
-    if n != GRANTED {
+    if n != numbers::GRANTED {
         return n;
     }
-    if !packed::in_force(t, 3) {
-        return GRANTED;
+    if !packed::in_force(t, policy::PIPELINE_RULE) {
+        return numbers::GRANTED;
     }
     if pipeline::permits(t, &h[0..], p, o) {
-        return GRANTED;
+        return numbers::GRANTED;
     }
-    PIPELINE
+    numbers::PIPELINE
 }
 
 // Whether persons s and u are declared.
@@ -209,7 +195,7 @@ fn are_persons(t: &Words, s: usize, u: usize) -> bool
 // Low-water and roles for a start of person u, by what the starter did. Roles are in force.
 fn judge_start_past(t: &Words, h: &[u8], did: Past, u: usize) -> u8
     requires { ⌜
-        Ready (tablesOf (now t)) (now h) × (personDeclared (tablesOf (now t)) u ≡ true) × (inForce (tablesOf (now t)) 2 ≡ true)
+        Ready (tablesOf (now t)) (now h) × (personDeclared (tablesOf (now t)) u ≡ true) × (inForce (tablesOf (now t)) rolesRule ≡ true)
         ⌝ }
     ensures { λ r. ⌜
         r ≡ numberOf (tablesOf (now (t .entry))) true
@@ -217,17 +203,17 @@ fn judge_start_past(t: &Words, h: &[u8], did: Past, u: usize) -> u8
         (rolesBy (tablesOf (now (t .entry))) (did .rights) 32)
         ⌝ }
 {
-    if packed::in_force(t, 1) {
+    if packed::in_force(t, policy::LOW_WATER_RULE) {
         let own = did.level;
         let other = past::current_level(t, h, u);
         if !other.compare(own) {
-            return LOW_WATER;
+            return numbers::LOW_WATER;
         }
     }
     if rules::roles_permit(t, did.rights, 32) {
-        return GRANTED;
+        return numbers::GRANTED;
     }
-    ROLES
+    numbers::ROLES
 }
 
 // A start of person u by person s. The history is lent on as a part, as in `judge_access`.
@@ -236,13 +222,13 @@ fn judge_start(t: &Words, h: &[u8], s: usize, u: usize) -> u8
     ensures { λ r. ⌜ r ≡ judged (tablesOf (now (t .entry))) (setOf (now (h .entry))) (start s u) ⌝ }
 {
     if !are_persons(t, s, u) {
-        return UNDECLARED;
+        return numbers::UNDECLARED;
     }
-    if packed::in_force(t, 2) {
+    if packed::in_force(t, policy::ROLES_RULE) {
         return judge_start_past(t, &h[0..], past::past_of(t, &h[0..], s), u);
     }
-    if !packed::in_force(t, 1) {
-        return GRANTED;
+    if !packed::in_force(t, policy::LOW_WATER_RULE) {
+        return numbers::GRANTED;
     }
     judge_level(t, &h[0..], s, past::current_level(t, &h[0..], u))
 }
@@ -273,7 +259,7 @@ fn access_number(t: &Words, h: &[u8], s: usize, o: usize, write: bool) -> u8
     ensures { λ r. ⌜ r ≡ judged (tablesOf (now (t .entry))) (setOf (now (h .entry))) (accessBy write s o) ⌝ }
 {
     if is_unasked(t, s, o, write) {
-        return GRANTED;
+        return numbers::GRANTED;
     }
     judge_access(t, h, s, o, write)
 }
@@ -331,7 +317,7 @@ pub fn judge_next(t: &Words, h: &[u8], bytes: &[u8]) -> Judged
     let parsed = request::parse(bytes);
     match parsed {
         Parsed::Nothing => Judged {
-            number: CUT,
+            number: numbers::REQUEST_CUT,
             index: 0,
             next: bytes.len(),
         },
@@ -362,7 +348,7 @@ pub fn judge_bytes(t: &Words, h: &[u8], bytes: &[u8]) -> u8
 {
     let parsed = request::parse(bytes);
     match parsed {
-        Parsed::Nothing => CUT,
+        Parsed::Nothing => numbers::REQUEST_CUT,
         Parsed::Access {
             write,
             person,

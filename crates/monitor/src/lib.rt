@@ -19,15 +19,7 @@ use policy::Loaded;
 use policy::Ran;
 use policy::Standing;
 use policy::Tables;
-
-// The published numbers of a call that takes tables and a history.
-pub const PASSED: u8 = 0;
-
-pub const WRONG_LENGTH: u8 = 10;
-
-pub const NOT_GIVEN: u8 = 11;
-
-pub const TOO_FEW_ANSWERS: u8 = 18;
+use policy::numbers;
 
 // Makes a history blank.
 pub fn blank(h: &mut [u8]) -> u8
@@ -55,12 +47,12 @@ fn checked(t: Tables, h: &[u8]) -> u8
     ensures { λ r. ⌜ r ≡ ladder (callChecks t (now (h .entry))) ⌝ }
 {
     if h.len() != history::BYTES {
-        return WRONG_LENGTH;
+        return numbers::WRONG_LENGTH;
     }
     if rulebook::given(t) {
-        return PASSED;
+        return numbers::GRANTED;
     }
-    NOT_GIVEN
+    numbers::NOT_GIVEN
 }
 
 // Judges the request at the front of the bytes, and records nothing.
@@ -68,7 +60,7 @@ pub fn judge(t: Tables, h: &[u8], request: &[u8]) -> u8
     ensures { λ r. ⌜ r ≡ judgeNumber t (now (h .entry)) (now (request .entry)) ⌝ }
 {
     let number = checked(t, h);
-    if number != PASSED {
+    if number != numbers::GRANTED {
         return number;
     }
     let words = packing::pack(t);
@@ -83,7 +75,7 @@ pub fn put(t: Tables, h: &mut [u8], request: &[u8]) -> u8
         ⌝ }
 {
     let number = checked(t, h);
-    if number != PASSED {
+    if number != numbers::GRANTED {
         return number;
     }
     let words = packing::pack(t);
@@ -108,16 +100,16 @@ pub fn run(t: Tables, h: &mut [u8], requests: &[u8], answers: &mut [u8]) -> Ran
         ⌝ }
 {
     let number = checked(t, h);
-    if number != PASSED {
+    if number != numbers::GRANTED {
         return no_run(number);
     }
     if answers.len() < running::answers_due(requests) {
-        return no_run(TOO_FEW_ANSWERS);
+        return no_run(numbers::TOO_FEW_ANSWERS);
     }
     let words = packing::pack(t);
     let counts = running::run_ready(&words, h, requests, answers);
     Ran {
-        number: PASSED,
+        number: numbers::GRANTED,
         granted: counts.granted,
         refused: counts.refused,
     }
@@ -140,18 +132,18 @@ pub fn standing(t: Tables, h: &[u8], person: u8) -> Standing
     ensures { λ r. ⌜ r ≡ standingOf t (now (h .entry)) person ⌝ }
 {
     let number = checked(t, h);
-    if number != PASSED {
+    if number != numbers::GRANTED {
         return no_standing(number);
     }
     let words = packing::pack(t);
     let s = bits::wide(person);
     if !packed::is_person(&words, s) {
-        return no_standing(judging::UNDECLARED);
+        return no_standing(numbers::UNDECLARED);
     }
     let did = past::past_of(&words, h, s);
     let level = did.level;
     Standing {
-        number: 0,
+        number: numbers::GRANTED,
         level,
         rights: bits::count64(did.rights),
         firms: bits::count64(did.firms),

@@ -7,6 +7,7 @@ ghost use lib.ListN.{length};
 ghost use Rattle.bits.specs.Bits.{withBit, maskBelow};
 ghost use Rattle.bits.specs.Bounded.{anyBelow};
 ghost use Rattle.policy.specs.Tables.{folderDeclared};
+ghost use Rattle.policy.specs.History.{historyBytes};
 ghost use Rattle.policy.specs.Request.{setOf};
 ghost use Rattle.policy.specs.Rules.{pipelineStep};
 ghost use Rattle.packed.specs.Packed.{tablesOf};
@@ -26,7 +27,7 @@ fn with_step(done: u16, doers: u64, p: usize) -> u16
 
 // The set of the steps that some of these persons did on folder o.
 fn steps_done(h: &[u8], persons: u64, o: usize) -> u16
-    requires { ⌜ (length (now h) ≡ 18944) × (o < 128) ⌝ }
+    requires { ⌜ (length (now h) ≡ historyBytes) × (o < 128) ⌝ }
     ensures { λ r. ⌜ r ≡ maskBelow 16 (doneBy (now (h .entry)) persons o) ⌝ }
 {
     let mut done: u16 = 0;
@@ -67,7 +68,7 @@ fn is_led_to(t: &Words, done: u16, q: usize) -> bool
 
 // Whether the pipeline permits step q on folder o.
 pub fn permits(t: &Words, h: &[u8], q: usize, o: usize) -> bool
-    requires { ⌜ (length (now h) ≡ 18944) × (folderDeclared (tablesOf (now t)) o ≡ true) × (q < 16) ⌝ }
+    requires { ⌜ (length (now h) ≡ historyBytes) × (folderDeclared (tablesOf (now t)) o ≡ true) × (q < 16) ⌝ }
     ensures { λ r. ⌜ r ≡ pipelineStep (tablesOf (now (t .entry))) (setOf (now (h .entry))) q o ⌝ }
 {
     let done = steps_done(h, packed::persons(t), o);

@@ -18,16 +18,17 @@ use mathlib.Core.List.{
   List·Permᴰ·cons,
   List·Permᴰ·swap,
   List·Permᴰ·trans,
+  List·Memᴰ,
   List·Memᴰ·head,
   List·Memᴰ·tail,
   List·Memᴰ·cases-cons,
 }
 use lib.Dec.{eqb}
 use Rattle.policy.specs.declared.Tables.{Tables}
-use Rattle.policy.specs.Tables.{inForce}
+use Rattle.policy.specs.Tables.{inForce, lowWaterRule, pipelineRule}
 use Rattle.policy.specs.Rulebook.{given, loadBook}
 use Rattle.policy.specs.Request.{Request, read, write, start, step, member}
-use Rattle.policy.specs.Agreement.{_∈_, FromBlank, granted, SameSet, Done, stepsOn, Throughout, Claim}
+use Rattle.policy.specs.Agreement.{FromBlank, granted, SameSet, Done, stepsOn, Throughout, Claim}
 use Rattle.policy.proofs.Circles.{Way, no-circle}
 use Rattle.policy.proofs.Granted.{grantedOver}
 use Rattle.policy.proofs.Histories.{
@@ -65,7 +66,7 @@ steps-reversed o (step s p f ∷ l) g = steps-reversed o l (step s p f ∷ g) �
 -- ---- reorderings
 
 -- a reordering has the same calls
-perm-in : {A : Type 0} {l m : List A} → List·Permᴰ l m → (x : A) → x ∈ m → x ∈ l
+perm-in : {A : Type 0} {l m : List A} → List·Permᴰ l m → (x : A) → List·Memᴰ x m → List·Memᴰ x l
 perm-in List·Permᴰ·nil x h = h
 perm-in (List·Permᴰ·cons e d) x h =
     ⊎-elim (λ i. List·Memᴰ·head (i ∙ sym e)) (λ k. List·Memᴰ·tail (perm-in d x k)) (List·Memᴰ·cases-cons h)
@@ -76,7 +77,7 @@ perm-in (List·Permᴰ·swap e f) x h =
 perm-in (List·Permᴰ·trans d d′) x h = perm-in d x (perm-in d′ x h)
 
 module _ (t : Tables) (ok : given t ≡ true) (h h′ : List ℕ) (blank : FromBlank h) (blank′ : FromBlank h′) (xs ys : List (List ℕ)) where
-  steps-in-order : inForce t 3 ≡ true → ((p : ℕ) → Way t p p → ⊥) → SameSet (granted t h xs) (granted t h′ ys)
+  steps-in-order : inForce t pipelineRule ≡ true → ((p : ℕ) → Way t p p → ⊥) → SameSet (granted t h xs) (granted t h′ ys)
       → (o : ℕ) → stepsOn o (granted t h xs) ≡ stepsOn o (granted t h′ ys)
   unfolding stepsOn
   steps-in-order on none same o =
@@ -88,7 +89,7 @@ module _ (t : Tables) (ok : given t ≡ true) (h h′ : List ℕ) (blank : FromB
       ∙ sym (steps-reversed o (grantedOver t [] ys) [])
       ∙ ap (stepsOn o) (sym (granted-reverse t ok h′ ys blank′))
 
-  every-order : inForce t 1 ≡ false → inForce t 3 ≡ false → Perm xs ys → Throughout t h xs → Throughout t h′ ys
+  every-order : inForce t lowWaterRule ≡ false → inForce t pipelineRule ≡ false → Perm xs ys → Throughout t h xs → Throughout t h′ ys
   every-order low pipe perm zeros n m =
       ∥∥₁-elim perm (ℕ-set n 0) (λ d.
       granted-zeros t [] ys

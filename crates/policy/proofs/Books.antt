@@ -5,7 +5,7 @@ use native.Mathlib.Omega.{arith}
 use mathlib.Core.Path.{_≡_, refl, sym, ap, _∙_}
 use mathlib.Core.Logic.{_⊎_, ⊎-elim, _≢_}
 use mathlib.Core.Bool.{Bool, true, false, _&&_}
-use mathlib.Core.List.{List, [], _∷_, List·Memᴰ·head, List·Memᴰ·tail}
+use mathlib.Core.List.{List, [], _∷_, List·Memᴰ, List·Memᴰ·head, List·Memᴰ·tail}
 use lib.Dec.{leb, ltb}
 use lib.ListN.{length, getD, set, replicate}
 use lib.Seq.{set-getD, set-set, getD-set-same}
@@ -51,7 +51,6 @@ use Rattle.policy.specs.Rulebook.{
   roleGiven,
 }
 use Rattle.policy.specs.Demands.{OfType, Gives}
-use Rattle.policy.specs.Agreement.{_∈_}
 use Rattle.policy.proofs.Sound.{Fits}
 use Rattle.policy.proofs.Loads.{loaded-given}
 use Rattle.policy.proofs.GivenEntries.{Given, given-entries, firm-cases, person-cases, folder-cases, role-cases}
@@ -164,7 +163,7 @@ pair-next m fs ps os ks done p q x l h n z b r =
 -- ---- the tables are reached
 
 -- an entry of an array is a member of it
-member-at : {A : Type 0} (l : List A) (k : ℕ) (d : A) → k < length l → getD l k d ∈ l
+member-at : {A : Type 0} (l : List A) (k : ℕ) (d : A) → k < length l → List·Memᴰ (getD l k d) l
 member-at [] k d h = absurd (omega arith)
 member-at (x ∷ l) zero d h = List·Memᴰ·head refl
 member-at (x ∷ l) (suc k) d h = List·Memᴰ·tail (member-at l k d (omega arith))

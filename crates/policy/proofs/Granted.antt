@@ -9,10 +9,10 @@ use mathlib.Core.List.{List, [], _∷_}
 use mathlib.Core.Option.{Option, none, some}
 use lib.Dec.{eqb}
 use borrow.Author.Tests.{eqb-true, eqb-false, ne-eqb}
-use Rattle.bits.specs.Bounded.{_⇒_}
+use Rattle.bits.specs.Bounded.{_implies_}
 use Rattle.policy.specs.declared.Tables.{Tables}
 use Rattle.policy.specs.Checks.{ladder}
-use Rattle.policy.specs.Tables.{inForce}
+use Rattle.policy.specs.Tables.{inForce, wallRule, lowWaterRule, rolesRule, pipelineRule}
 use Rattle.policy.specs.Request.{Request, requestOf, member}
 use Rattle.policy.specs.Rules.{declared, wall, lowWater, currentLevel, roles, pipeline}
 use Rattle.policy.specs.Calls.{requestChecks, judgeOver, addedIf, judgeList}
@@ -20,10 +20,10 @@ use Rattle.policy.specs.Calls.{requestChecks, judgeOver, addedIf, judgeL
 -- every check of a request passes
 pub record Passed (t : Tables) (H : Request → Bool) (r : Request) : Type 0 where
   pub parties : declared t r ≡ true
-  pub walled : (inForce t 0 ⇒ wall t H r) ≡ true
-  pub levelled : (inForce t 1 ⇒ lowWater t (currentLevel t H) r) ≡ true
-  pub covered : (inForce t 2 ⇒ roles t H r) ≡ true
-  pub piped : (inForce t 3 ⇒ pipeline t H r) ≡ true
+  pub walled : (inForce t wallRule implies wall t H r) ≡ true
+  pub levelled : (inForce t lowWaterRule implies lowWater t (currentLevel t H) r) ≡ true
+  pub covered : (inForce t rolesRule implies roles t H r) ≡ true
+  pub piped : (inForce t pipelineRule implies pipeline t H r) ≡ true
 
 cond-zero : (c : Bool) (n m : ℕ) → cond c m (suc n) ≡ 0 → (c ≡ true) × (m ≡ 0)
 cond-zero true n m e = (refl, e)
@@ -38,20 +38,20 @@ module _ (t : Tables) (H : Request → Bool) where
   unfolding ladder requestChecks
   checks-passed r e =
       let a = cond-zero (declared t r) 12 _ e in
-      let b = cond-zero (inForce t 0 ⇒ wall t H r) 13 _ (a .1) in
-      let c = cond-zero (inForce t 1 ⇒ lowWater t (currentLevel t H) r) 14 _ (b .1) in
-      let d = cond-zero (inForce t 2 ⇒ roles t H r) 15 _ (c .1) in
-      let f = cond-zero (inForce t 3 ⇒ pipeline t H r) 16 _ (d .1) in
+      let b = cond-zero (inForce t wallRule implies wall t H r) 13 _ (a .1) in
+      let c = cond-zero (inForce t lowWaterRule implies lowWater t (currentLevel t H) r) 14 _ (b .1) in
+      let d = cond-zero (inForce t rolesRule implies roles t H r) 15 _ (c .1) in
+      let f = cond-zero (inForce t pipelineRule implies pipeline t H r) 16 _ (d .1) in
       record { parties = a .0; walled = b .0; levelled = c .0; covered = d .0; piped = f .0 }
 
   pub passed-checks : (r : Request) → Passed t H r → ladder (requestChecks t H (some r)) ≡ 0
   unfolding ladder requestChecks
   passed-checks r p =
       zero-cond (declared t r) 13 _ (p .parties)
-      (zero-cond (inForce t 0 ⇒ wall t H r) 14 _ (p .walled)
-      (zero-cond (inForce t 1 ⇒ lowWater t (currentLevel t H) r) 15 _ (p .levelled)
-      (zero-cond (inForce t 2 ⇒ roles t H r) 16 _ (p .covered)
-      (zero-cond (inForce t 3 ⇒ pipeline t H r) 17 _ (p .piped) refl))))
+      (zero-cond (inForce t wallRule implies wall t H r) 14 _ (p .walled)
+      (zero-cond (inForce t lowWaterRule implies lowWater t (currentLevel t H) r) 15 _ (p .levelled)
+      (zero-cond (inForce t rolesRule implies roles t H r) 16 _ (p .covered)
+      (zero-cond (inForce t pipelineRule implies pipeline t H r) 17 _ (p .piped) refl))))
 
   pub judge-passed : (bytes : List ℕ) → judgeOver t H bytes ≡ 0
       → (r : Request) × (requestOf bytes ≡ some r) × Passed t H r

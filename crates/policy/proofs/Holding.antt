@@ -4,7 +4,7 @@ use Prim.Native.Nat.{ℕ, _≤_}
 use mathlib.Core.Path.{_≡_, refl, sym, ap, _∙_}
 use mathlib.Core.Logic.{_⊎_, inl, inr, ⊎-elim, _≢_}
 use mathlib.Core.Bool.{true, false, false≢true}
-use mathlib.Core.List.{List, _∷_, List·Memᴰ·head, List·Memᴰ·tail, List·Memᴰ·not-nil, List·Memᴰ·cases-cons}
+use mathlib.Core.List.{List, _∷_, List·Memᴰ, List·Memᴰ·head, List·Memᴰ·tail, List·Memᴰ·not-nil, List·Memᴰ·cases-cons}
 use Rattle.bits.specs.Bits.{bit}
 use Rattle.bits.proofs.Booleans.{false-elim}
 use Rattle.bits.proofs.BitLaws.{bit-zero}
@@ -23,7 +23,7 @@ use Rattle.policy.specs.Rulebook.{
   loadBook,
   recordsOf,
 }
-use Rattle.policy.specs.Agreement.{_∈_, Holds}
+use Rattle.policy.specs.Agreement.{Holds}
 use Rattle.policy.proofs.Declaring.{isRules, Declares, no-record, more-records, book-loads}
 use Rattle.policy.proofs.Sound.{blank-each, Sound, declare-sound, start-sound}
 use Rattle.policy.proofs.Loads.{AnyWidth, any-fits}
@@ -43,7 +43,7 @@ module _ (part : Part) where
 
   -- an entry that a record gives
   declared-entry : {t t′ : Tables} {rs : List Record} → Declares t rs t′ → Sound AnyWidth t
-      → (i : part .Index) (v : part .Value) → part .records i v ∈ rs → part .entry t′ i ≡ part .value v
+      → (i : part .Index) (v : part .Value) → List·Memᴰ (part .records i v) rs → part .entry t′ i ≡ part .value v
   declared-entry no-record s i v m = absurd (List·Memᴰ·not-nil m)
   declared-entry (more-records {t = t} {r = r} p n d) s i v m =
       ⊎-elim
@@ -55,7 +55,7 @@ module _ (part : Part) where
 
   -- an entry that no record gives
   undeclared-entry : {t t′ : Tables} {rs : List Record} → Declares t rs t′
-      → (i : part .Index) → ((v : part .Value) → part .records i v ∈ rs → ⊥) → part .entry t′ i ≡ part .entry t i
+      → (i : part .Index) → ((v : part .Value) → List·Memᴰ (part .records i v) rs → ⊥) → part .entry t′ i ≡ part .entry t i
   undeclared-entry no-record i h = refl
   undeclared-entry (more-records {t = t} {r = r} p n d) i h =
       undeclared-entry d i (λ v m. h v (List·Memᴰ·tail m)) ∙ part .left t r i (λ v e. h v (List·Memᴰ·head (sym e)))
@@ -76,7 +76,7 @@ same-mask : {t t′ : Tables} {rs : List Record} → Declares t rs t′ → t′
 same-mask no-record = refl
 same-mask (more-records {t = t} {r = r} p n d) = same-mask d ∙ mask-left t r n
 
-no-rules : {t t′ : Tables} {rs : List Record} → Declares t rs t′ → (m : ℕ) → rules m ∈ rs → ⊥
+no-rules : {t t′ : Tables} {rs : List Record} → Declares t rs t′ → (m : ℕ) → List·Memᴰ (rules m) rs → ⊥
 unfolding isRules
 no-rules no-record m h = List·Memᴰ·not-nil h
 no-rules (more-records p n d) m h =
@@ -85,7 +85,7 @@ no-rules (more-records p n d) m h =
 -- ---- a pair that was not there before stands in a record
 
 pair-source : {t t′ : Tables} {rs : List Record} → Declares t rs t′ → (p q : ℕ) → enables t′ p q ≡ true
-    → (enables t p q ≡ true) ⊎ (pair p q ∈ rs)
+    → (enables t p q ≡ true) ⊎ (List·Memᴰ (pair p q) rs)
 pair-source no-record p q h = inl h
 pair-source (more-records {t = t} {r = r} a b d) p q h =
     ⊎-elim (λ e. ⊎-elim (λ same. inr (List·Memᴰ·head (sym same))) (λ before. inl before) (pair-cases t r p q e))
@@ -94,17 +94,17 @@ pair-source (more-records {t = t} {r = r} a b d) p q h =
 -- ---- all records: the record of the rules, and those after it
 
 module _ (t : Tables) (m : ℕ) (low : m ≤ 15) (rs : List Record) (d : Declares (declare emptyTables (rules m)) rs t) where
-  after-rules : (r : Record) → isRules r ≡ false → r ∈ rules m ∷ rs → r ∈ rs
+  after-rules : (r : Record) → isRules r ≡ false → List·Memᴰ r (rules m ∷ rs) → List·Memᴰ r rs
   unfolding isRules
   after-rules r o h =
       ⊎-elim (λ e. absurd (false-elim _ o (ap isRules e))) (λ later. later) (List·Memᴰ·cases-cons h)
 
   entry-given : (part : Part) (i : part .Index) (v : part .Value) → isRules (part .records i v) ≡ false
-      → part .records i v ∈ rules m ∷ rs → part .entry t i ≡ part .value v
+      → List·Memᴰ (part .records i v) (rules m ∷ rs) → part .entry t i ≡ part .value v
   entry-given part i v o h =
       declared-entry part d (start-sound AnyWidth (λ w. tt) m low) i v (after-rules (part .records i v) o h)
 
-  entry-blank : (part : Part) (i : part .Index) → ((v : part .Value) → part .records i v ∈ rules m ∷ rs → ⊥)
+  entry-blank : (part : Part) (i : part .Index) → ((v : part .Value) → List·Memᴰ (part .records i v) (rules m ∷ rs) → ⊥)
       → part .entry t i ≡ part .entry (declare emptyTables (rules m)) i
   entry-blank part i h = undeclared-entry part d i (λ v later. h v (List·Memᴰ·tail later))
 

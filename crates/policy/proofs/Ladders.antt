@@ -4,12 +4,23 @@ use Prim.Native.Nat.{ℕ}
 use mathlib.Core.Path.{_≡_, refl, sym, ap, _∙_}
 use mathlib.Core.Logic.{_≢_, ⊎-elim}
 use mathlib.Core.Bool.{Bool, true, false, not, _&&_, _||_, false≢true}
-use mathlib.Core.List.{List, [], _∷_, _++_, map, List·Memᴰ·head, List·Memᴰ·tail, List·Memᴰ·not-nil, List·Memᴰ·cases-cons, Memᴰ·cast}
+use mathlib.Core.List.{
+  List,
+  [],
+  _∷_,
+  _++_,
+  map,
+  List·Memᴰ,
+  List·Memᴰ·head,
+  List·Memᴰ·tail,
+  List·Memᴰ·not-nil,
+  List·Memᴰ·cases-cons,
+  Memᴰ·cast,
+}
 use lib.Dec.{eqb}
 use borrow.Author.Tests.{eqb-true, eqb-false, not-true}
 use Rattle.bits.proofs.Booleans.{and-left, and-right, or-cases, decide}
 use Rattle.policy.specs.Checks.{Check, ladder}
-use Rattle.policy.specs.Agreement.{_∈_}
 use Rattle.policy.specs.Demands.{AllPermit, FirstRefusal}
 
 -- ---- one check and the rest
@@ -97,14 +108,14 @@ first-ladder cs n f =
 
 -- ---- in either case one of these numbers
 
-pub ladder-member : (cs : List Check) → ladder cs ∈ (0 ∷ map (λ c. c .number) cs)
+pub ladder-member : (cs : List Check) → List·Memᴰ (ladder cs) (0 ∷ map (λ c. c .number) cs)
 unfolding ladder
 ladder-member [] = List·Memᴰ·head refl
 ladder-member (c ∷ cs) =
     ⊎-elim (λ t. Memᴰ·cast (ladder-permits c cs t) (more (ladder-member cs)))
     (λ f. List·Memᴰ·tail (List·Memᴰ·head (ladder-refuses c cs f))) (decide (c .permits))
   where
-    more : {n m : ℕ} {l : List ℕ} → n ∈ (0 ∷ l) → n ∈ (0 ∷ m ∷ l)
+    more : {n m : ℕ} {l : List ℕ} → List·Memᴰ n (0 ∷ l) → List·Memᴰ n (0 ∷ m ∷ l)
     more (List·Memᴰ·head e) = List·Memᴰ·head e
     more (List·Memᴰ·tail i) = List·Memᴰ·tail (List·Memᴰ·tail i)
 
@@ -117,12 +128,12 @@ abbrev pub allStandIn : List ℕ → List ℕ → Bool
 allStandIn l [] = true
 allStandIn l (n ∷ ns) = standsIn l n && allStandIn l ns
 
-stands-in : (l : List ℕ) (n : ℕ) → standsIn l n ≡ true → n ∈ l
+stands-in : (l : List ℕ) (n : ℕ) → standsIn l n ≡ true → List·Memᴰ n l
 stands-in [] n e = absurd (false≢true e)
 stands-in (m ∷ l) n e =
     ⊎-elim (λ a. List·Memᴰ·head (eqb-true n m a)) (λ b. List·Memᴰ·tail (stands-in l n b)) (or-cases (eqb n m) (standsIn l n) e)
 
-pub all-stand-in : (l ns : List ℕ) (n : ℕ) → allStandIn l ns ≡ true → n ∈ ns → n ∈ l
+pub all-stand-in : (l ns : List ℕ) (n : ℕ) → allStandIn l ns ≡ true → List·Memᴰ n ns → List·Memᴰ n l
 all-stand-in l [] n e i = absurd (List·Memᴰ·not-nil i)
 all-stand-in l (m ∷ ns) n e i =
     ⊎-elim (λ q. Memᴰ·cast q (stands-in l m (and-left (standsIn l m) _ e)))

@@ -3,7 +3,7 @@ pub mod Requests
 pub mod Accesses
 pub mod Published
 pub mod Ladders
-pub mod Numbers
+pub mod PublishedNumbers
 pub mod Refusals
 pub mod Runs
 pub mod Places

@@ -4,7 +4,7 @@ use Prim.Native.Nat.{ℕ, _≤_, _<_}
 use mathlib.Core.Path.{_≡_, ap, _∙_}
 use mathlib.Core.Logic.{_⊎_, ⊎-elim}
 use mathlib.Core.Bool.{true, false, not}
-use mathlib.Core.List.{List, List·Memᴰ·tail}
+use mathlib.Core.List.{List, List·Memᴰ, List·Memᴰ·tail}
 use lib.Dec.{ltb}
 use lib.ListN.{List·getD-eq-default}
 use borrow.Author.Tests.{le-leb, ltb-true, ltb-false}
@@ -33,7 +33,6 @@ use Rattle.policy.specs.Rulebook.{
   roleGiven,
   given,
 }
-use Rattle.policy.specs.Agreement.{_∈_}
 use Rattle.policy.proofs.Declaring.{book-loads, finishes-circle, finishes-loose}
 use Rattle.policy.proofs.Sound.{Sound, Fits, start-sound, declares-sound}
 
@@ -73,7 +72,7 @@ module _ (Width : ℕ → ℕ → Type 0) (t : Tables) (s : Sound Width t) where
 -- ---- the tables of a book
 
 pub loaded-sound : (Width : ℕ → ℕ → Type 0) → ((w : ℕ) → Width w 0) → (book : List ℕ) → loadBook book .number ≡ 0
-    → ((r : Record) → r ∈ recordsOf book → Fits Width r) → Sound Width (loadBook book .tables)
+    → ((r : Record) → List·Memᴰ r (recordsOf book) → Fits Width r) → Sound Width (loadBook book .tables)
 loaded-sound Width z book e w =
     let l = book-loads book e in
     declares-sound Width (l .finishes .declares) (start-sound Width z (l .mask) (l .low))

@@ -5,7 +5,7 @@ use native.Mathlib.Omega.{arith}
 use mathlib.Core.Path.{_≡_, refl, _∙_}
 use mathlib.Core.Logic.{_⊎_, inl, inr, ⊎-elim, _≢_}
 use mathlib.Core.Bool.{true}
-use mathlib.Core.List.{List, [], _∷_, List·Memᴰ·head, Memᴰ·append-right}
+use mathlib.Core.List.{List, [], _∷_, List·Memᴰ, List·Memᴰ·head, Memᴰ·append-right}
 use lib.Dec.{eqb}
 use lib.ListN.{length, drop, length-drop}
 use borrow.Author.Tests.{eqb-true, eqb-false, ne-eqb}
@@ -25,7 +25,6 @@ use Rattle.policy.specs.Rulebook.{
   loadFrom,
   loadBook,
 }
-use Rattle.policy.specs.Agreement.{_∈_}
 use Rattle.policy.specs.Demands.{
   AllPermit,
   FirstRefusal,
@@ -38,14 +37,14 @@ use Rattle.policy.specs.Demands.{
   Loading,
 }
 use Rattle.policy.proofs.Ladders.{numbered, ladder-zero, zero-ladder, ladder-first, first-ladder}
-use Rattle.policy.proofs.Numbers.{record-numbered, end-numbered}
+use Rattle.policy.proofs.PublishedNumbers.{record-numbered, end-numbered}
 
 -- ---- a list of checks permits throughout, or has a first refusal, whose number is not 0
 
 pub refusal-not-zero : {cs : List Check} {n : ℕ} → numbered cs ≡ true → FirstRefusal cs n → n ≢ 0
 refusal-not-zero {cs} {n} h r z =
     let all : AllPermit cs = ladder-zero cs h (first-ladder cs n r ∙ z) in
-    let stands : r .check ∈ cs = rw (r .split) (Memᴰ·append-right (r .before) (List·Memᴰ·head refl)) in
+    let stands : List·Memᴰ (r .check) cs = rw (r .split) (Memᴰ·append-right (r .before) (List·Memᴰ·head refl)) in
     false-elim (r .check .permits) (r .refuses) (all (r .check) stands)
 
 permits-or-refuses : (cs : List Check) → numbered cs ≡ true → AllPermit cs ⊎ FirstRefusal cs (ladder cs)

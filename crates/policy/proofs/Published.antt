@@ -10,7 +10,7 @@ use mathlib.Core.Bool.{Bool, true, false, cond, not, _&&_}
 use lib.Dec.{eqb}
 use borrow.Author.Tests.{eqb-true, eqb-false, eq-eqb, ne-eqb, not-true}
 use Rattle.bits.specs.Bits.{bit}
-use Rattle.bits.specs.Bounded.{anyBelow, foldBelow, _⇒_}
+use Rattle.bits.specs.Bounded.{anyBelow, foldBelow, _implies_}
 use Rattle.bits.proofs.Booleans.{
   and-left,
   and-right,
@@ -93,13 +93,13 @@ module _ (t : Tables) (H : Request → Bool) where
   other-all : (s c : ℕ) → otherClass t H s c ≡ true → (o : ℕ) → Accessed t H s o → c ≢ classOf t o
   unfolding otherClass
   other-all s c e o a q =
-      let d = all-at 128 (λ o. accessed t H s o ⇒ not (eqb (classOf t o) c)) e o (accessed-below t H s o a) in
+      let d = all-at 128 (λ o. accessed t H s o implies not (eqb (classOf t o) c)) e o (accessed-below t H s o a) in
       eqb-false (classOf t o) c (not-true _ (implies-elim (accessed t H s o) _ d (some-accessed t H s o a))) (sym q)
 
   all-other : (s c : ℕ) → ((o : ℕ) → Accessed t H s o → c ≢ classOf t o) → otherClass t H s c ≡ true
   unfolding otherClass
   all-other s c h =
-      all-of 128 (λ o. accessed t H s o ⇒ not (eqb (classOf t o) c))
+      all-of 128 (λ o. accessed t H s o implies not (eqb (classOf t o) c))
       (λ o l. implies-intro (accessed t H s o) _ (λ a. ap not (ne-eqb (classOf t o) c (λ q. h o (accessed-some t H s o a) (sym q)))))
 
   wall-access : (s o : ℕ) → (wallAccess t H s o ≡ true) ↔ WallAccess t H s o

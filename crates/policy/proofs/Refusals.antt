@@ -32,7 +32,7 @@ use Rattle.policy.specs.Rulebook.{
 }
 use Rattle.policy.specs.Calls.{restOf, recordedIf, judgeNumber, putHistory, runNumber, runHistory, runAnswers}
 use Rattle.policy.specs.Demands.{Refusals}
-use Rattle.policy.proofs.Numbers.{load-cases}
+use Rattle.policy.proofs.PublishedNumbers.{load-cases}
 
 -- the empty book loads, to its tables
 empty-book : loadBook (1 ∷ 0 ∷ 0 ∷ []) .tables ≡ emptyTables

@@ -5,19 +5,38 @@ use Prim.Native.Nat.{ℕ}
 use mathlib.Core.Path.{_≡_, refl, sym, ap, _∙_, subst}
 use mathlib.Core.Logic.{_⊎_, inl, inr, ⊎-elim, _≢_}
 use mathlib.Core.Bool.{Bool, true, false}
-use mathlib.Core.List.{List, [], _∷_, List·Memᴰ·head, List·Memᴰ·tail, List·Memᴰ·not-nil, List·Memᴰ·cases-cons}
+use mathlib.Core.List.{
+  List,
+  [],
+  _∷_,
+  List·Memᴰ,
+  List·Memᴰ·head,
+  List·Memᴰ·tail,
+  List·Memᴰ·not-nil,
+  List·Memᴰ·cases-cons,
+}
 use mathlib.Core.Option.{some}
 use lib.Dec.{eqb}
 use borrow.Author.Tests.{eqb-true, eqb-false}
 use Rattle.bits.specs.Bits.{bit}
 use Rattle.bits.proofs.Booleans.{implies-elim, implies-intro, decide, false-elim}
 use Rattle.policy.specs.declared.Tables.{Tables}
-use Rattle.policy.specs.Tables.{firmAt, folderAt, roleAt, roleDeclared, classOf, inForce}
+use Rattle.policy.specs.Tables.{
+  firmAt,
+  folderAt,
+  roleAt,
+  roleDeclared,
+  classOf,
+  inForce,
+  wallRule,
+  lowWaterRule,
+  rolesRule,
+  pipelineRule,
+}
 use Rattle.policy.specs.Request.{Request, read, write, start, step, subject, requestOf, member}
 use Rattle.policy.specs.Rules.{declared, right, opened}
 use Rattle.policy.specs.Calls.{judgeOver, judgeList}
 use Rattle.policy.specs.Published.{Access, Accessed, WallAccess, Roles}
-use Rattle.policy.specs.Agreement.{_∈_}
 use Rattle.policy.proofs.Requests.{member-none, member-head, member-tail, member-cases}
 use Rattle.policy.proofs.Published.{opened-some, some-opened, wall-published, roles-published}
 use Rattle.policy.proofs.Granted.{Passed, judge-passed, passed-judge, putOver, put-granted, grantedOver, judge-more}
@@ -49,9 +68,9 @@ Covers t S s k = (q : Request) → S q ≡ true → subject q ≡ s → bit (rol
 -- what holds of a set that was granted one request after another
 record Fair (t : Tables) (S : Request → Bool) : Type 0 where
   known : (r : Request) → S r ≡ true → declared t r ≡ true
-  clean : inForce t 0 ≡ true → (s o o′ : ℕ) → Accessed t S s o → Accessed t S s o′ → Compatible t o o′
+  clean : inForce t wallRule ≡ true → (s o o′ : ℕ) → Accessed t S s o → Accessed t S s o′ → Compatible t o o′
   role :
-      inForce t 2 ≡ true → (r : Request) → S r ≡ true
+      inForce t rolesRule ≡ true → (r : Request) → S r ≡ true
       → (k : ℕ) × (roleDeclared t k ≡ true) × Covers t S (subject r) k
 
 fair-none : (t : Tables) → Fair t (member [])
@@ -71,7 +90,7 @@ module _ (t : Tables) (g : List Request) (r : Request) (fair : Fair t (member g)
   access-cases s o (q, h, a) =
       ⊎-elim (λ e. inl (subst (λ (x : Request). Access x s o) e a)) (λ m. inr (q, (h .0, m), a)) (member-cases r q g (h .1))
 
-  new-compatible : inForce t 0 ≡ true → (s o o′ : ℕ) → Access r s o → Accessed t (member g) s o′ → Compatible t o o′
+  new-compatible : inForce t wallRule ≡ true → (s o o′ : ℕ) → Access r s o → Accessed t (member g) s o′ → Compatible t o o′
   unfolding Compatible
   new-compatible on s o o′ a b =
       ⊎-elim
@@ -81,7 +100,7 @@ module _ (t : Tables) (g : List Request) (r : Request) (fair : Fair t (member g)
       (λ w. inr (w o′ b))
       (wall-published t (member g) r .0 (implies-elim _ _ (p .walled) on) s o a)
 
-  more-clean : inForce t 0 ≡ true → (s o o′ : ℕ) → Accessed t (member (r ∷ g)) s o → Accessed t (member (r ∷ g)) s o′
+  more-clean : inForce t wallRule ≡ true → (s o o′ : ℕ) → Accessed t (member (r ∷ g)) s o → Accessed t (member (r ∷ g)) s o′
       → Compatible t o o′
   unfolding Compatible
   more-clean on s o o′ a b =
@@ -94,7 +113,7 @@ module _ (t : Tables) (g : List Request) (r : Request) (fair : Fair t (member g)
       (access-cases s o′ b))
       (access-cases s o a)
 
-  more-role : inForce t 2 ≡ true → (q : Request) → member (r ∷ g) q ≡ true
+  more-role : inForce t rolesRule ≡ true → (q : Request) → member (r ∷ g) q ≡ true
       → (k : ℕ) × (roleDeclared t k ≡ true) × Covers t (member (r ∷ g)) (subject q) k
   unfolding Covers
   more-role on q m =
@@ -126,7 +145,7 @@ module _ (t : Tables) (S H : Request → Bool) (fair : Fair t S) (part : (q : Re
   in-part : (s o : ℕ) → Accessed t H s o → Accessed t S s o
   in-part s o (q, h, a) = (q, (h .0, part q (h .1)), a)
 
-  passes-wall : inForce t 0 ≡ true → (r : Request) → S r ≡ true → (s o : ℕ) → Access r s o → WallAccess t H s o
+  passes-wall : inForce t wallRule ≡ true → (r : Request) → S r ≡ true → (s o : ℕ) → Access r s o → WallAccess t H s o
   unfolding Compatible
   passes-wall on r m s o a =
       ⊎-elim (λ y. inl (opened-some t H s (folderAt t o .firm) y))
@@ -135,13 +154,13 @@ module _ (t : Tables) (S H : Request → Bool) (fair : Fair t S) (part : (q : Re
       (fair .clean on s o o′ (r, (fair .known r m, m), a) (in-part s o′ b))))
       (decide (opened t H s (folderAt t o .firm)))
 
-  passes-roles : inForce t 2 ≡ true → (r : Request) → S r ≡ true → Roles t H r
+  passes-roles : inForce t rolesRule ≡ true → (r : Request) → S r ≡ true → Roles t H r
   unfolding Covers
   passes-roles on r m =
       let (k, d, c) = fair .role on r m in
       (k, d, λ q w. ⊎-elim (λ e. rw e (c r m refl)) (λ i. c q (part q (i .0 .1)) (i .1)) w)
 
-  fair-passed : inForce t 1 ≡ false → inForce t 3 ≡ false → (r : Request) → S r ≡ true → Passed t H r
+  fair-passed : inForce t lowWaterRule ≡ false → inForce t pipelineRule ≡ false → (r : Request) → S r ≡ true → Passed t H r
   fair-passed low pipe r m =
       record {
         parties = fair .known r m;
@@ -157,7 +176,7 @@ AllGranted t g [] = Unit {0}
 AllGranted t g (bytes ∷ calls) = (judgeOver t (member g) bytes ≡ 0) × AllGranted t (putOver t g bytes) calls
 
 pub zeros-granted : (t : Tables) (g : List Request) (calls : List (List ℕ))
-    → ((n : ℕ) → n ∈ judgeList t g calls → n ≡ 0) → AllGranted t g calls
+    → ((n : ℕ) → List·Memᴰ n (judgeList t g calls) → n ≡ 0) → AllGranted t g calls
 unfolding AllGranted
 zeros-granted t g [] h = tt
 zeros-granted t g (bytes ∷ calls) h = (
@@ -166,7 +185,7 @@ zeros-granted t g (bytes ∷ calls) h = (
 )
 
 pub granted-zeros : (t : Tables) (g : List Request) (calls : List (List ℕ)) → AllGranted t g calls
-    → (n : ℕ) → n ∈ judgeList t g calls → n ≡ 0
+    → (n : ℕ) → List·Memᴰ n (judgeList t g calls) → n ≡ 0
 unfolding AllGranted judgeList
 granted-zeros t g [] h n m = absurd (List·Memᴰ·not-nil m)
 granted-zeros t g (bytes ∷ calls) h n m =
@@ -176,7 +195,7 @@ granted-zeros t g (bytes ∷ calls) h n m =
 module _ (t : Tables) where
   -- each call is a request of the set
   Calls : (Request → Bool) → List (List ℕ) → Type 0
-  Calls S calls = (bytes : List ℕ) → bytes ∈ calls → (r : Request) × (requestOf bytes ≡ some r) × (S r ≡ true)
+  Calls S calls = (bytes : List ℕ) → List·Memᴰ bytes calls → (r : Request) × (requestOf bytes ≡ some r) × (S r ≡ true)
 
   granted-stays : (g : List Request) (calls : List (List ℕ)) → AllGranted t g calls
       → (r : Request) → member g r ≡ true → member (grantedOver t g calls) r ≡ true
@@ -203,7 +222,7 @@ module _ (t : Tables) where
             (List·Memᴰ·cases-cons m),
       )
 
-  module _ (S : Request → Bool) (fair : Fair t S) (low : inForce t 1 ≡ false) (pipe : inForce t 3 ≡ false) where
+  module _ (S : Request → Bool) (fair : Fair t S) (low : inForce t lowWaterRule ≡ false) (pipe : inForce t pipelineRule ≡ false) where
     regranted : (g : List Request) (calls : List (List ℕ))
         → ((q : Request) → member g q ≡ true → S q ≡ true) → Calls S calls → AllGranted t g calls
     unfolding AllGranted Calls
@@ -219,8 +238,8 @@ module _ (t : Tables) where
         )
 
   -- every list of calls of a list granted throughout is granted throughout, from the empty set
-  pub reordered : inForce t 1 ≡ false → inForce t 3 ≡ false → (xs ys : List (List ℕ))
-      → ((bytes : List ℕ) → bytes ∈ ys → bytes ∈ xs) → AllGranted t [] xs → AllGranted t [] ys
+  pub reordered : inForce t lowWaterRule ≡ false → inForce t pipelineRule ≡ false → (xs ys : List (List ℕ))
+      → ((bytes : List ℕ) → List·Memᴰ bytes ys → List·Memᴰ bytes xs) → AllGranted t [] xs → AllGranted t [] ys
   unfolding Calls
   reordered low pipe xs ys part h =
       let (fair, each) = granted-fair [] xs h (fair-none t) in

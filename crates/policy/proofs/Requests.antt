@@ -5,7 +5,16 @@ use native.Mathlib.Omega.{arith}
 use mathlib.Core.Path.{_≡_, refl, sym, ap, ap₂}
 use mathlib.Core.Logic.{_⊎_, inl, inr, ⊎-elim}
 use mathlib.Core.Bool.{Bool, true, false, _&&_, _||_, false≢true}
-use mathlib.Core.List.{List, [], _∷_, List·Memᴰ·head, List·Memᴰ·tail, List·Memᴰ·not-nil, List·Memᴰ·cases-cons}
+use mathlib.Core.List.{
+  List,
+  [],
+  _∷_,
+  List·Memᴰ,
+  List·Memᴰ·head,
+  List·Memᴰ·tail,
+  List·Memᴰ·not-nil,
+  List·Memᴰ·cases-cons,
+}
 use lib.Dec.{eqb, leb, ltb}
 use borrow.Author.Tests.{eqb-true, eq-eqb, ltb-true, lt-ltb, leb-true, le-leb}
 use Rattle.bits.proofs.Booleans.{and-left, and-right, and-both, or-cases, or-left, or-right}
@@ -13,7 +22,6 @@ use Rattle.policy.specs.declared.Tables.{Tables}
 use Rattle.policy.specs.Tables.{personAt, personDeclared, folderDeclared, roleDeclared}
 use Rattle.policy.specs.Request.{Request, read, write, start, step, same, member, hasPlace}
 use Rattle.policy.specs.Rules.{declared}
-use Rattle.policy.specs.Agreement.{_∈_}
 
 -- ---- the same request
 
@@ -77,12 +85,12 @@ pub member-cases : (q r : Request) (g : List Request) → member (q ∷ g) r ≡
 unfolding member
 member-cases q r g h = ⊎-elim (λ e. inl (sym (same-eq q r e))) (λ m. inr m) (or-cases (same q r) (member g r) h)
 
-pub member-in : (r : Request) (g : List Request) → member g r ≡ true → r ∈ g
+pub member-in : (r : Request) (g : List Request) → member g r ≡ true → List·Memᴰ r g
 unfolding member
 member-in r [] h = never h
 member-in r (q ∷ g) h = ⊎-elim (λ e. List·Memᴰ·head e) (λ m. List·Memᴰ·tail (member-in r g m)) (member-cases q r g h)
 
-pub in-member : (r : Request) (g : List Request) → r ∈ g → member g r ≡ true
+pub in-member : (r : Request) (g : List Request) → List·Memᴰ r g → member g r ≡ true
 in-member r [] h = absurd (List·Memᴰ·not-nil h)
 in-member r (q ∷ g) h =
     ⊎-elim (λ e. rw e (member-head q g)) (λ m. member-tail q r g (in-member r g m)) (List·Memᴰ·cases-cons h)

@@ -5,7 +5,7 @@ use Prim.Native.Nat.{ℕ, zero, suc, _^_, _≤_, _<_}
 use native.Mathlib.Omega.{arith}
 use mathlib.Core.Path.{_≡_, refl, sym, _∙_}
 use mathlib.Core.Bool.{Bool, true, false, cond, _&&_}
-use mathlib.Core.List.{List, [], _∷_, List·Memᴰ·head, List·Memᴰ·tail}
+use mathlib.Core.List.{List, [], _∷_, List·Memᴰ, List·Memᴰ·head, List·Memᴰ·tail}
 use lib.Dec.{eqb, leb, ltb, lit<}
 use lib.ListN.{length, getD, set, replicate, length-set, length-replicate}
 use borrow.Author.Tests.{leb-true, ne-eqb, eqb-false}
@@ -36,7 +36,6 @@ use Rattle.policy.specs.Rulebook.{
   folderGiven,
   roleGiven,
 }
-use Rattle.policy.specs.Agreement.{_∈_}
 use Rattle.policy.proofs.Declaring.{Passes, Declares, no-record, more-records}
 
 -- ---- arrays all of whose entries have a property
@@ -187,7 +186,7 @@ module _ (Width : ℕ → ℕ → Type 0) where
             (set-sound (enabledBy t n) q (and-right (leb n 15) _ (p .range)) (p .notCreate) (s .steps .each n));
       }
 
-  pub declares-sound : {t t′ : Tables} {rs : List Record} → Declares t rs t′ → Sound t → ((r : Record) → r ∈ rs → Fits r) → Sound t′
+  pub declares-sound : {t t′ : Tables} {rs : List Record} → Declares t rs t′ → Sound t → ((r : Record) → List·Memᴰ r rs → Fits r) → Sound t′
   declares-sound no-record s w = s
   declares-sound (more-records {t = t} {r = r} p n d) s w =
       declares-sound d (declare-sound t r s p (w r (List·Memᴰ·head refl))) (λ q m. w q (List·Memᴰ·tail m))

@@ -5,16 +5,25 @@ use Prim.Native.Nat.{ℕ}
 use mathlib.Core.Path.{_≡_, refl, sym, ap, ap₂, _∙_, subst}
 use mathlib.Core.Logic.{_⊎_, inl, inr, ⊎-elim}
 use mathlib.Core.Bool.{Bool, true, false, cond, false≢true}
-use mathlib.Core.List.{List, [], _∷_, List·Memᴰ·head, List·Memᴰ·tail, List·Memᴰ·not-nil, List·Memᴰ·cases-cons}
+use mathlib.Core.List.{
+  List,
+  [],
+  _∷_,
+  List·Memᴰ,
+  List·Memᴰ·head,
+  List·Memᴰ·tail,
+  List·Memᴰ·not-nil,
+  List·Memᴰ·cases-cons,
+}
 use lib.Dec.{eqb}
 use borrow.Author.Tests.{eqb-true, eqb-false}
 use Rattle.bits.proofs.Booleans.{implies-elim, false-elim}
 use Rattle.policy.specs.declared.Tables.{Tables}
-use Rattle.policy.specs.Tables.{enables, inForce}
+use Rattle.policy.specs.Tables.{enables, inForce, pipelineRule}
 use Rattle.policy.specs.Request.{Request, read, write, start, step, same, member}
 use Rattle.policy.specs.Rules.{declared}
 use Rattle.policy.specs.Published.{Applied, Pipeline}
-use Rattle.policy.specs.Agreement.{_∈_, Done, stepsOn}
+use Rattle.policy.specs.Agreement.{Done, stepsOn}
 use Rattle.policy.proofs.Requests.{member-none, member-head, member-tail, member-cases}
 use Rattle.policy.proofs.Published.{pipeline-published}
 use Rattle.policy.proofs.Circles.{Way, one, way-join}
@@ -25,13 +34,13 @@ use Rattle.policy.proofs.Granted.{Passed, grantedOver, granted-keeps}
 -- each element stands after all those that follow it in the list
 Sorted : {A : Type 0} (R : A → A → Type 0) → List A → Type 0
 Sorted R [] = Unit {0}
-Sorted {A} R (x ∷ l) = ((y : A) → y ∈ l → R y x) × Sorted R l
+Sorted {A} R (x ∷ l) = ((y : A) → List·Memᴰ y l → R y x) × Sorted R l
 
 module _ {A : Type 0} (R : A → A → Type 0) (asym : (x y : A) → R x y → R y x → ⊥) where
-  not-twice : (x z : A) (l : List A) → ((y : A) → y ∈ l → R y x) → z ≡ x → z ∈ l → ⊥
+  not-twice : (x z : A) (l : List A) → ((y : A) → List·Memᴰ y l → R y x) → z ≡ x → List·Memᴰ z l → ⊥
   not-twice x z l s e h = let r : R x x = rw e at (s z h) in asym x x r r
 
-  sorted-first : (x y : A) (l m : List A) → Sorted R (x ∷ l) → Sorted R (y ∷ m) → x ∈ (y ∷ m) → y ∈ (x ∷ l) → x ≡ y
+  sorted-first : (x y : A) (l m : List A) → Sorted R (x ∷ l) → Sorted R (y ∷ m) → List·Memᴰ x (y ∷ m) → List·Memᴰ y (x ∷ l) → x ≡ y
   unfolding Sorted
   sorted-first x y l m s s′ h h′ =
       ⊎-elim (λ e. e)
@@ -39,7 +48,7 @@ module _ {A : Type 0} (R : A → A → Type 0) (asym : (x y : A) → R x y → R
       (List·Memᴰ·cases-cons h)
 
   sorted-unique : (l m : List A) → Sorted R l → Sorted R m
-      → ((x : A) → x ∈ l → x ∈ m) → ((x : A) → x ∈ m → x ∈ l) → l ≡ m
+      → ((x : A) → List·Memᴰ x l → List·Memᴰ x m) → ((x : A) → List·Memᴰ x m → List·Memᴰ x l) → l ≡ m
   unfolding Sorted
   sorted-unique [] [] s s′ f g = refl
   sorted-unique [] (y ∷ m) s s′ f g = absurd (List·Memᴰ·not-nil (g y (List·Memᴰ·head refl)))
@@ -71,7 +80,7 @@ unfolding Chain
 chain-rest t x [] c = tt
 chain-rest t x (y ∷ l) c = c .1
 
-chain-way : (t : Tables) (x : Done) (l : List Done) → Chain t (x ∷ l) → (y : Done) → y ∈ l → Before t y x
+chain-way : (t : Tables) (x : Done) (l : List Done) → Chain t (x ∷ l) → (y : Done) → List·Memᴰ y l → Before t y x
 unfolding Chain
 chain-way t x [] c y h = absurd (List·Memᴰ·not-nil h)
 chain-way t x (z ∷ l) c y h =
@@ -83,8 +92,8 @@ chain-sorted t [] c = tt
 chain-sorted t (x ∷ l) c = (chain-way t x l c, chain-sorted t l (chain-rest t x l c))
 
 -- all but the newest enable a step of the chain
-chain-next : (t : Tables) (x : Done) (l : List Done) → Chain t (x ∷ l) → (y : Done) → y ∈ l
-    → (z : Done) × (z ∈ (x ∷ l)) × (enables t (y .number) (z .number) ≡ true)
+chain-next : (t : Tables) (x : Done) (l : List Done) → Chain t (x ∷ l) → (y : Done) → List·Memᴰ y l
+    → (z : Done) × (List·Memᴰ z (x ∷ l)) × (enables t (y .number) (z .number) ≡ true)
 unfolding Chain
 chain-next t x [] c y h = absurd (List·Memᴰ·not-nil h)
 chain-next t x (w ∷ l) c y h =
@@ -94,7 +103,7 @@ chain-next t x (w ∷ l) c y h =
 
 -- a step of the set stands in the list of its folder, and what stands there is a step of the set
 member-steps : (o s p : ℕ) (g : List Request) → member g (step s p o) ≡ true
-    → record { person = s; number = p } ∈ stepsOn o g
+    → List·Memᴰ (record { person = s; number = p }) (stepsOn o g)
 unfolding stepsOn member same
 member-steps o s p [] h = absurd (false≢true h)
 member-steps o s p (read s′ f ∷ g) h = member-steps o s p g h
@@ -106,9 +115,9 @@ member-steps o s p (step s′ p′ f ∷ g) h =
     this : Done
     this = record { person = s; number = p }
 
-    go : (b : Bool) → eqb f o ≡ b → (member g (step s p o) ≡ true → this ∈ stepsOn o g)
+    go : (b : Bool) → eqb f o ≡ b → (member g (step s p o) ≡ true → List·Memᴰ this (stepsOn o g))
         → (step s p o ≡ step s′ p′ f) ⊎ (member g (step s p o) ≡ true)
-        → this ∈ cond b (record { person = s′; number = p′ } ∷ stepsOn o g) (stepsOn o g)
+        → List·Memᴰ this (cond b (record { person = s′; number = p′ } ∷ stepsOn o g) (stepsOn o g))
     go true q rest (inl e) =
         let a : s ≡ s′ = cc in
         let b : p ≡ p′ = cc in
@@ -117,7 +126,7 @@ member-steps o s p (step s′ p′ f ∷ g) h =
     go false q rest (inl e) = let a : o ≡ f = cc in absurd (eqb-false f o q (sym a))
     go false q rest (inr m) = rest m
 
-steps-member : (o : ℕ) (x : Done) (g : List Request) → x ∈ stepsOn o g
+steps-member : (o : ℕ) (x : Done) (g : List Request) → List·Memᴰ x (stepsOn o g)
     → member g (step (x .person) (x .number) o) ≡ true
 unfolding stepsOn
 steps-member o x [] h = absurd (List·Memᴰ·not-nil h)
@@ -129,8 +138,8 @@ steps-member o x (step s p f ∷ g) h = go (eqb f o) refl (steps-member o x g) h
     this : Request
     this = step (x .person) (x .number) o
 
-    go : (b : Bool) → eqb f o ≡ b → (x ∈ stepsOn o g → member g this ≡ true)
-        → x ∈ cond b (record { person = s; number = p } ∷ stepsOn o g) (stepsOn o g) → member (step s p f ∷ g) this ≡ true
+    go : (b : Bool) → eqb f o ≡ b → (List·Memᴰ x (stepsOn o g) → member g this ≡ true)
+        → List·Memᴰ x (cond b (record { person = s; number = p } ∷ stepsOn o g) (stepsOn o g)) → member (step s p f ∷ g) this ≡ true
     go true q rest m =
         ⊎-elim
         (λ e.
@@ -143,10 +152,10 @@ steps-member o x (step s p f ∷ g) h = go (eqb f o) refl (steps-member o x g) h
 -- ---- one more granted step
 
 module _ (t : Tables) (g : List Request) (known : (r : Request) → member g r ≡ true → declared t r ≡ true) where
-  applied-steps : (p o : ℕ) → Applied t (member g) p o → (x : Done) × (x ∈ stepsOn o g) × (x .number ≡ p)
+  applied-steps : (p o : ℕ) → Applied t (member g) p o → (x : Done) × (List·Memᴰ x (stepsOn o g)) × (x .number ≡ p)
   applied-steps p o (s, h) = (record { person = s; number = p }, member-steps o s p g (h .1), refl)
 
-  steps-applied : (o : ℕ) (x : Done) → x ∈ stepsOn o g → Applied t (member g) (x .number) o
+  steps-applied : (o : ℕ) (x : Done) → List·Memᴰ x (stepsOn o g) → Applied t (member g) (x .number) o
   steps-applied o x h = let m = steps-member o x g h in (x .person, (known _ m, m))
 
   chain-step : (o s q : ℕ) → Chain t (stepsOn o g) → Pipeline t (member g) (step s q o)
@@ -176,7 +185,7 @@ record Lined (t : Tables) (g : List Request) : Type 0 where
   known : (r : Request) → member g r ≡ true → declared t r ≡ true
   chain : (o : ℕ) → Chain t (stepsOn o g)
 
-module _ (t : Tables) (on : inForce t 3 ≡ true) where
+module _ (t : Tables) (on : inForce t pipelineRule ≡ true) where
   lined-none : Lined t []
   unfolding stepsOn Chain
   lined-none = record { known = λ r h. absurd (false-elim (member [] r) (member-none r) h); chain = λ o. tt }

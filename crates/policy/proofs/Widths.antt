@@ -6,14 +6,22 @@ use native.Mathlib.Omega.{arith}
 use mathlib.Core.Path.{_≡_, refl}
 use mathlib.Core.Logic.{_⊎_, ⊎-elim}
 use mathlib.Core.Bool.{Bool, true, false, cond}
-use mathlib.Core.List.{List, [], _∷_, List·Memᴰ·head, List·Memᴰ·tail, List·Memᴰ·not-nil, List·Memᴰ·cases-cons}
+use mathlib.Core.List.{
+  List,
+  [],
+  _∷_,
+  List·Memᴰ,
+  List·Memᴰ·head,
+  List·Memᴰ·tail,
+  List·Memᴰ·not-nil,
+  List·Memᴰ·cases-cons,
+}
 use lib.Dec.{eqb, lit<}
 use lib.Pow.{pow-pos}
 use lib.ListN.{length, getD, take, drop}
 use Rattle.policy.specs.declared.Tables.{Tables}
 use Rattle.policy.specs.Tables.{noPerson, noFolder, noRole}
 use Rattle.policy.specs.Rulebook.{Record, bodyLength, littleEndian, recordOf, loadBook, recordsFrom, recordsOf}
-use Rattle.policy.specs.Agreement.{_∈_}
 use Rattle.policy.specs.Demands.{Bytes, OfType}
 use Rattle.policy.proofs.Sound.{Sound, Fits}
 use Rattle.policy.proofs.Loads.{loaded-sound}
@@ -46,7 +54,7 @@ record-fits (suc (suc (suc (suc (suc zero))))) body h = little-small 8 (drop 1 b
 record-fits (suc (suc (suc (suc (suc (suc zero)))))) body h = tt
 record-fits (suc (suc (suc (suc (suc (suc (suc kind))))))) body h = tt
 
-records-fit : (n : ℕ) (bytes : List ℕ) → Bytes bytes → (r : Record) → r ∈ recordsFrom n bytes → Fits Bits r
+records-fit : (n : ℕ) (bytes : List ℕ) → Bytes bytes → (r : Record) → List·Memᴰ r (recordsFrom n bytes) → Fits Bits r
 unfolding recordsFrom
 records-fit zero bytes h r m = absurd (List·Memᴰ·not-nil m)
 records-fit (suc n) [] h r m = absurd (List·Memᴰ·not-nil m)
@@ -54,15 +62,15 @@ records-fit (suc n) (kind ∷ body) h r m =
     let after : Bytes body = λ b m. h b (List·Memᴰ·tail m) in
     go (eqb kind 0) after (records-fit n (drop (bodyLength kind) body) (bytes-drop (bodyLength kind) body after) r) m
   where
-    go : (last : Bool) → Bytes body → (r ∈ recordsFrom n (drop (bodyLength kind) body) → Fits Bits r)
-        → r ∈ cond last [] (recordOf kind body ∷ recordsFrom n (drop (bodyLength kind) body)) → Fits Bits r
+    go : (last : Bool) → Bytes body → (List·Memᴰ r (recordsFrom n (drop (bodyLength kind) body)) → Fits Bits r)
+        → List·Memᴰ r (cond last [] (recordOf kind body ∷ recordsFrom n (drop (bodyLength kind) body))) → Fits Bits r
     go true after later m = absurd (List·Memᴰ·not-nil m)
     go false after later m =
         ⊎-elim (λ (e : r ≡ recordOf kind body). rw e (record-fits kind body after)) (λ there. later there) (List·Memᴰ·cases-cons m)
 
 -- ---- the tables
 
-array-member : {A : Type 0} (P : A → Type 0) (d : A) {l : List A} → ((i : ℕ) → P (getD l i d)) → (x : A) → x ∈ l → P x
+array-member : {A : Type 0} (P : A → Type 0) (d : A) {l : List A} → ((i : ℕ) → P (getD l i d)) → (x : A) → List·Memᴰ x l → P x
 array-member P d h x (List·Memᴰ·head e) = rw e (h 0)
 array-member P d h x (List·Memᴰ·tail m) = array-member P d (λ i. h (suc i)) x m
 

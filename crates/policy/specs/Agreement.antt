@@ -18,32 +18,30 @@ use Rattle.policy.specs.Tables.{
   roleAt,
   enables,
   inForce,
+  lowWaterRule,
+  pipelineRule,
 }
 use Rattle.policy.specs.Rulebook.{Record, rules, firm, person, folder, role, pair, loadBook, recordsOf}
 use Rattle.policy.specs.Request.{Request, read, write, start, step, requestOf}
 use Rattle.policy.specs.Calls.{blankNumber, blankHistory, addedIf, judgeList, putNumbers, putHistories}
 
-infix 30 _∈_
-abbrev pub _∈_ : {A : Type 0} → A → List A → Type 0
-a ∈ l = List·Memᴰ a l
-
 -- the tables hold what the records declare, all of it and nothing else: what no record declares is zero and marked undeclared
 pub record Holds (t : Tables) (records : List Record) : Type 0 where
-  pub mask : (m : ℕ) → (rules m ∈ records) ↔ (t .mask ≡ m)
-  pub firms : (f class : ℕ) → firm f class ∈ records → firmAt t f ≡ record { declared = true; class = class }
-  pub noFirms : (f : ℕ) → ((class : ℕ) → firm f class ∈ records → ⊥) → firmAt t f ≡ noFirm
+  pub mask : (m : ℕ) → (List·Memᴰ (rules m) records) ↔ (t .mask ≡ m)
+  pub firms : (f class : ℕ) → List·Memᴰ (firm f class) records → firmAt t f ≡ record { declared = true; class = class }
+  pub noFirms : (f : ℕ) → ((class : ℕ) → List·Memᴰ (firm f class) records → ⊥) → firmAt t f ≡ noFirm
   pub persons :
-      (s level : ℕ) → person s level ∈ records
+      (s level : ℕ) → List·Memᴰ (person s level) records
       → personAt t s ≡ record { declared = true; level = record { 0 = level } }
-  pub noPersons : (s : ℕ) → ((level : ℕ) → person s level ∈ records → ⊥) → personAt t s ≡ noPerson
+  pub noPersons : (s : ℕ) → ((level : ℕ) → List·Memᴰ (person s level) records → ⊥) → personAt t s ≡ noPerson
   pub folders :
-      (o f kind level : ℕ) → folder o f kind level ∈ records
+      (o f kind level : ℕ) → List·Memᴰ (folder o f kind level) records
       → folderAt t o ≡ record { declared = true; firm = f; kind = kind; level = record { 0 = level } }
   pub noFolders :
-      (o : ℕ) → ((f kind level : ℕ) → folder o f kind level ∈ records → ⊥) → folderAt t o ≡ noFolder
-  pub roles : (k rights : ℕ) → role k rights ∈ records → roleAt t k ≡ record { declared = true; rights = rights }
-  pub noRoles : (k : ℕ) → ((rights : ℕ) → role k rights ∈ records → ⊥) → roleAt t k ≡ noRole
-  pub pairs : (p q : ℕ) → (pair p q ∈ records) ↔ (enables t p q ≡ true)
+      (o : ℕ) → ((f kind level : ℕ) → List·Memᴰ (folder o f kind level) records → ⊥) → folderAt t o ≡ noFolder
+  pub roles : (k rights : ℕ) → List·Memᴰ (role k rights) records → roleAt t k ≡ record { declared = true; rights = rights }
+  pub noRoles : (k : ℕ) → ((rights : ℕ) → List·Memᴰ (role k rights) records → ⊥) → roleAt t k ≡ noRole
+  pub pairs : (p q : ℕ) → (List·Memᴰ (pair p q) records) ↔ (enables t p q ≡ true)
 
 -- from blank: right after a blank that answered 0
 abbrev pub FromBlank : List ℕ → Type 0
@@ -60,7 +58,7 @@ granted t h calls = answeredZero calls (putNumbers t h calls)
 
 -- the same set was granted: without order or repeats
 abbrev pub SameSet : List Request → List Request → Type 0
-SameSet g g′ = (r : Request) → (r ∈ g) ↔ (r ∈ g′)
+SameSet g g′ = (r : Request) → (List·Memᴰ r g) ↔ (List·Memᴰ r g′)
 
 -- the person and the step of each granted step on a folder, in the order of the calls
 pub record Done : Type 0 where
@@ -76,7 +74,7 @@ stepsOn o (step s p f ∷ g) = cond (eqb f o) (record { person = s; number = p }
 
 -- granted throughout: every call answers 0
 abbrev pub Throughout : Tables → List ℕ → List (List ℕ) → Type 0
-Throughout t h calls = (n : ℕ) → n ∈ putNumbers t h calls → n ≡ 0
+Throughout t h calls = (n : ℕ) → List·Memᴰ n (putNumbers t h calls) → n ≡ 0
 
 -- the agreement on tables and the records of their book, for any two lists from blank
 pub record Agreement (t : Tables) (records : List Record) (h h′ : List ℕ) (xs ys : List (List ℕ)) : Type 0 where
@@ -93,10 +91,10 @@ pub record Agreement (t : Tables) (records : List Record) (h h′ : List ℕ) (x
       × (putHistories t (putHistories t h xs) zs ≡ putHistories t (putHistories t h′ ys) zs)
   -- under the pipeline the granted steps on a folder came in the same order
   pub steps :
-      inForce t 3 ≡ true → SameSet (granted t h xs) (granted t h′ ys)
+      inForce t pipelineRule ≡ true → SameSet (granted t h xs) (granted t h′ ys)
       → (o : ℕ) → stepsOn o (granted t h xs) ≡ stepsOn o (granted t h′ ys)
   -- without low-water and pipeline every reordering of a granted list is granted
-  pub orders : inForce t 1 ≡ false → inForce t 3 ≡ false → Perm xs ys → Throughout t h xs → Throughout t h′ ys
+  pub orders : inForce t lowWaterRule ≡ false → inForce t pipelineRule ≡ false → Perm xs ys → Throughout t h xs → Throughout t h′ ys
 
 -- the claim: every rulebook that loads, every two lists from blank
 abbrev pub Claim : Type 0

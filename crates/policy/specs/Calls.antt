@@ -5,12 +5,12 @@ use mathlib.Core.List.{List, [], _∷_, _++_}
 use mathlib.Core.Option.{Option, none, some}
 use lib.Dec.{eqb, leb}
 use lib.ListN.{length, drop}
-use Rattle.bits.specs.Bounded.{countBelow, _⇒_}
+use Rattle.bits.specs.Bounded.{countBelow, _implies_}
 use Rattle.policy.specs.declared.Tables.{Tables}
 use Rattle.policy.specs.declared.Ran.{Ran}
 use Rattle.policy.specs.declared.Standing.{Standing}
 use Rattle.policy.specs.Checks.{Check, _else_, ladder}
-use Rattle.policy.specs.Tables.{personDeclared, inForce}
+use Rattle.policy.specs.Tables.{personDeclared, inForce, wallRule, lowWaterRule, rolesRule, pipelineRule}
 use Rattle.policy.specs.Rulebook.{loadBook, given}
 use Rattle.policy.specs.History.{historyBytes, zeros}
 use Rattle.policy.specs.Request.{Request, requestOf, recordLength, setOf, recorded, member}
@@ -32,10 +32,10 @@ unfoldable pub requestChecks : Tables → (Request → Bool) → Option Request 
 requestChecks t H none = (false else 12) ∷ []
 requestChecks t H (some r) =
     (declared t r else 13)
-    ∷ ((inForce t 0 ⇒ wall t H r) else 14)
-    ∷ ((inForce t 1 ⇒ lowWater t (currentLevel t H) r) else 15)
-    ∷ ((inForce t 2 ⇒ roles t H r) else 16)
-    ∷ ((inForce t 3 ⇒ pipeline t H r) else 17)
+    ∷ ((inForce t wallRule implies wall t H r) else 14)
+    ∷ ((inForce t lowWaterRule implies lowWater t (currentLevel t H) r) else 15)
+    ∷ ((inForce t rolesRule implies roles t H r) else 16)
+    ∷ ((inForce t pipelineRule implies pipeline t H r) else 17)
     ∷ []
 
 -- judging over a set of requests

@@ -3,7 +3,7 @@ use Prim.Native.Nat.{ℕ, _+_, _^_, _≤_, _<_}
 use mathlib.Core.Path.{_≡_}
 use mathlib.Core.Logic.{_↔_, _≢_}
 use mathlib.Core.Bool.{Bool, true, false, _||_}
-use mathlib.Core.List.{List, [], _∷_, _++_}
+use mathlib.Core.List.{List, [], _∷_, _++_, List·Memᴰ}
 use mathlib.Core.Option.{none, some}
 use lib.ListN.{length, drop}
 use Rattle.policy.specs.declared.Person.{Person}
@@ -12,7 +12,7 @@ use Rattle.policy.specs.declared.Role.{Role}
 use Rattle.policy.specs.declared.Tables.{Tables}
 use Rattle.policy.specs.declared.Loaded.{Loaded}
 use Rattle.policy.specs.Checks.{Check}
-use Rattle.policy.specs.Tables.{emptyTables, inForce}
+use Rattle.policy.specs.Tables.{emptyTables, inForce, wallRule, lowWaterRule, rolesRule, pipelineRule}
 use Rattle.policy.specs.Rulebook.{
   bodyLength,
   recordOf,
@@ -44,17 +44,16 @@ use Rattle.policy.specs.Calls.{
   standingNumber,
 }
 use Rattle.policy.specs.Published.{Wall, LowWater, Roles, Pipeline}
-use Rattle.policy.specs.Agreement.{_∈_}
 
 -- every call's number is a published one
 pub record Numbers : Type 0 where
-  pub blank : (h : List ℕ) → blankNumber h ∈ (0 ∷ 10 ∷ [])
-  pub load : (book : List ℕ) → loadBook book .number ∈ (0 ∷ 1 ∷ 2 ∷ 3 ∷ 4 ∷ 5 ∷ 6 ∷ 7 ∷ 8 ∷ 9 ∷ [])
+  pub blank : (h : List ℕ) → List·Memᴰ (blankNumber h) (0 ∷ 10 ∷ [])
+  pub load : (book : List ℕ) → List·Memᴰ (loadBook book .number) (0 ∷ 1 ∷ 2 ∷ 3 ∷ 4 ∷ 5 ∷ 6 ∷ 7 ∷ 8 ∷ 9 ∷ [])
   pub judge :
       (t : Tables) (h bytes : List ℕ)
-      → judgeNumber t h bytes ∈ (0 ∷ 10 ∷ 11 ∷ 12 ∷ 13 ∷ 14 ∷ 15 ∷ 16 ∷ 17 ∷ [])
-  pub run : (t : Tables) (h requests answers : List ℕ) → runNumber t h requests answers ∈ (0 ∷ 10 ∷ 11 ∷ 18 ∷ [])
-  pub standing : (t : Tables) (h : List ℕ) (s : ℕ) → standingNumber t h s ∈ (0 ∷ 10 ∷ 11 ∷ 13 ∷ [])
+      → List·Memᴰ (judgeNumber t h bytes) (0 ∷ 10 ∷ 11 ∷ 12 ∷ 13 ∷ 14 ∷ 15 ∷ 16 ∷ 17 ∷ [])
+  pub run : (t : Tables) (h requests answers : List ℕ) → List·Memᴰ (runNumber t h requests answers) (0 ∷ 10 ∷ 11 ∷ 18 ∷ [])
+  pub standing : (t : Tables) (h : List ℕ) (s : ℕ) → List·Memᴰ (standingNumber t h s) (0 ∷ 10 ∷ 11 ∷ 13 ∷ [])
 
 -- a refused call leaves what was lent to it; a refused book gives the tables of the empty book, 1 0 0, and an empty rest
 pub record Refusals : Type 0 where
@@ -68,7 +67,7 @@ pub record Refusals : Type 0 where
 
 -- every check of the list permits
 abbrev pub AllPermit : List Check → Type 0
-AllPermit checks = (c : Check) → c ∈ checks → c .permits ≡ true
+AllPermit checks = (c : Check) → List·Memᴰ c checks → c .permits ≡ true
 
 -- n is the number of the first check that does not permit
 pub record FirstRefusal (checks : List Check) (n : ℕ) : Type 0 where
@@ -103,10 +102,10 @@ Loading = (book : List ℕ) (l : Loaded) → (loadBook book ≡ l) ↔ Outcome 0
 
 -- every rule in force permits the request, by its published definition
 pub record Permitted (t : Tables) (H : Request → Bool) (r : Request) : Type 0 where
-  pub wall : inForce t 0 ≡ true → Wall t H r
-  pub lowWater : inForce t 1 ≡ true → LowWater t H r
-  pub roles : inForce t 2 ≡ true → Roles t H r
-  pub pipeline : inForce t 3 ≡ true → Pipeline t H r
+  pub wall : inForce t wallRule ≡ true → Wall t H r
+  pub lowWater : inForce t lowWaterRule ≡ true → LowWater t H r
+  pub roles : inForce t rolesRule ≡ true → Roles t H r
+  pub pipeline : inForce t pipelineRule ≡ true → Pipeline t H r
 
 -- granting: on tables that a load gives and a history of the right length, for a request of declared parties
 pub record Granting (t : Tables) (h bytes : List ℕ) (r : Request) : Type 0 where
@@ -126,7 +125,7 @@ Grants =
 
 -- bytes are numbers below 256
 abbrev pub Bytes : List ℕ → Type 0
-Bytes l = (b : ℕ) → b ∈ l → b < 256
+Bytes l = (b : ℕ) → List·Memᴰ b l → b < 256
 
 -- the lengths of the arrays, and the widths of the numbers, that the type of the tables has
 pub record OfType (t : Tables) : Type 0 where
@@ -135,10 +134,10 @@ pub record OfType (t : Tables) : Type 0 where
   pub folders : length (t .folders) ≡ 128
   pub roles : length (t .roles) ≡ 32
   pub steps : length (t .steps) ≡ 16
-  pub personLevels : (s : Person) → s ∈ t .persons → s .level .0 < 2 ^ 16
-  pub folderLevels : (o : Folder) → o ∈ t .folders → o .level .0 < 2 ^ 16
-  pub rights : (k : Role) → k ∈ t .roles → k .rights < 2 ^ 64
-  pub sets : (x : ℕ) → x ∈ t .steps → x < 2 ^ 16
+  pub personLevels : (s : Person) → List·Memᴰ s (t .persons) → s .level .0 < 2 ^ 16
+  pub folderLevels : (o : Folder) → List·Memᴰ o (t .folders) → o .level .0 < 2 ^ 16
+  pub rights : (k : Role) → List·Memᴰ k (t .roles) → k .rights < 2 ^ 64
+  pub sets : (x : ℕ) → List·Memᴰ x (t .steps) → x < 2 ^ 16
 
 -- the test for tables that a load gives holds exactly where some rulebook loads to these tables
 abbrev pub Gives : Type 0

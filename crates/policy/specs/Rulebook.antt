@@ -140,10 +140,11 @@ reaches t (suc k) p q = reaches t k p q || (reaches t k p k && reaches t k k q)
 unfoldable pub hasCircle : Tables → Bool
 hasCircle t = anyBelow 16 (λ p. reaches t 16 p p)
 
--- step p, other than 0, enables something and is not itself enabled
+-- "every step but 0 that enables something is itself enabled": step p, other than 0, enables something and is not itself enabled
 unfoldable pub isLoose : Tables → ℕ → Bool
 isLoose t p = not (eqb p 0) && not (eqb (enabledBy t p) 0) && not (anyBelow 16 (λ r. enables t r p))
 
+-- "a step enables but isn't enabled": some step does
 unfoldable pub hasLoose : Tables → Bool
 hasLoose t = anyBelow 16 (isLoose t)
 

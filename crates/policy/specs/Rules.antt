@@ -3,7 +3,7 @@ use Prim.Native.Nat.{ℕ, zero, suc, _+_}
 use mathlib.Core.Bool.{Bool, true, cond, not, _&&_, _||_}
 use lib.Dec.{eqb, leb}
 use Rattle.bits.specs.Bits.{bit}
-use Rattle.bits.specs.Bounded.{anyBelow, allBelow, foldBelow, _⇒_}
+use Rattle.bits.specs.Bounded.{anyBelow, allBelow, foldBelow, _implies_}
 use Rattle.level.specs.Levels.{atMost, meetOf}
 use Rattle.policy.specs.declared.Tables.{Tables}
 use Rattle.policy.specs.Request.{Request, read, write, start, step, subject}
@@ -53,7 +53,7 @@ module _ (t : Tables) (H : Request → Bool) where
 
   -- every folder that person s accessed is in another class
   unfoldable pub otherClass : ℕ → ℕ → Bool
-  otherClass s class = allBelow 128 (λ o. accessed s o ⇒ not (eqb (classOf t o) class))
+  otherClass s class = allBelow 128 (λ o. accessed s o implies not (eqb (classOf t o) class))
 
   unfoldable pub wallAccess : ℕ → ℕ → Bool
   wallAccess s o = opened s (folderAt t o .firm) || otherClass s (classOf t o)

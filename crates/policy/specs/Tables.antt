@@ -74,5 +74,17 @@ unfoldable pub classOf : Tables → ℕ → ℕ
 classOf t o = firmAt t (folderAt t o .firm) .class
 
 -- rules in force: bit 0 wall, 1 low-water, 2 roles, 3 pipeline
+abbrev pub wallRule : ℕ
+wallRule = 0
+
+abbrev pub lowWaterRule : ℕ
+lowWaterRule = 1
+
+abbrev pub rolesRule : ℕ
+rolesRule = 2
+
+abbrev pub pipelineRule : ℕ
+pipelineRule = 3
+
 unfoldable pub inForce : Tables → ℕ → Bool
 inForce t k = bit (t .mask) k

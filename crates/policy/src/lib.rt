@@ -1,6 +1,17 @@
 // The declared types of the monitor: the tables of a rulebook and what the calls return.
 use level::Level;
 
+pub mod numbers;
+
+// The four rules, each by its bit in the mask of rules in force.
+pub const WALL_RULE: usize = 0;
+
+pub const LOW_WATER_RULE: usize = 1;
+
+pub const ROLES_RULE: usize = 2;
+
+pub const PIPELINE_RULE: usize = 3;
+
 // A firm and its conflict class (document 01: "class of rivals").
 pub struct Firm {
     pub declared: bool,

@@ -5,31 +5,13 @@ ghost use Rattle.policy.specs.Calls.{restOf};
 use logic::both;
 use policy::Loaded;
 use policy::Tables;
+use policy::numbers;
 use records::Known;
 
 mod entries;
 mod logic;
 mod records;
 mod steps;
-
-// What refuses a book (document 01, the table of causes); the number of a book that loads is 0.
-pub const CUT: u8 = 1;
-
-pub const UNKNOWN_KIND: u8 = 2;
-
-pub const MISPLACED_RULES: u8 = 3;
-
-pub const OUT_OF_RANGE: u8 = 4;
-
-pub const DECLARED_BEFORE: u8 = 5;
-
-pub const FIRM_NOT_DECLARED: u8 = 6;
-
-pub const ENTERS_CREATE: u8 = 7;
-
-pub const CIRCLE: u8 = 8;
-
-pub const LOOSE_STEP: u8 = 9;
 
 // A refused book.
 fn refuse(number: u8, at: usize) -> Loaded
@@ -49,13 +31,13 @@ fn finish(at: usize, t: Tables) -> Loaded
 {
     let sets = t.steps;
     if steps::has_circle(sets) {
-        return refuse(CIRCLE, at);
+        return refuse(numbers::CIRCLE, at);
     }
     if steps::has_loose(sets) {
-        return refuse(LOOSE_STEP, at);
+        return refuse(numbers::LOOSE_STEP, at);
     }
     Loaded {
-        number: 0,
+        number: numbers::GRANTED,
         offset: at,
         tables: t,
     }
@@ -94,7 +76,7 @@ pub fn load(book: &[u8]) -> Loaded
             4 => t.folders[folder] = entries::new_folder(r.firm as u8, r.folder_kind, r.level),
             5 => t.roles[role] = entries::new_role(r.rights),
             6 => t.steps[p] = bits::with_bit16(known.steps, r.q),
-            7..=255 => return refuse(UNKNOWN_KIND, at),
+            7..=255 => return refuse(numbers::UNKNOWN_KIND, at),
         }
         at = r.next;
     }

@@ -9,14 +9,8 @@ ghost use Rattle.bits.specs.Bits.{bit};
 ghost use Rattle.policy.specs.Checks.{_else_, ladder};
 ghost use Rattle.policy.specs.Rulebook.{bodyLength, littleEndian, inRange};
 ghost use Rattle.rulebook.specs.Readings.{recordRead, FieldsRead, ReadAt, BlankRead, numberOf};
-use crate::CUT;
-use crate::DECLARED_BEFORE;
-use crate::ENTERS_CREATE;
-use crate::FIRM_NOT_DECLARED;
-use crate::MISPLACED_RULES;
-use crate::OUT_OF_RANGE;
-use crate::UNKNOWN_KIND;
 use crate::logic::both;
+use policy::numbers;
 
 // A record as it is read: the number that refuses it, or 0, its kind and the fields of its kind, and where the next record starts.
 // Fields that its kind does not have are 0, and so is every field of a refused record.
@@ -178,23 +172,23 @@ pub fn read(book: &[u8], at: usize) -> Reading
     ensures { λ r. ⌜ ReadAt (now (book .entry)) at r ⌝ }
 {
     if book.len() <= at {
-        return blank(CUT);
+        return blank(numbers::BOOK_CUT);
     }
     let kind = book[at];
     if 6 < kind {
-        return blank(UNKNOWN_KIND);
+        return blank(numbers::UNKNOWN_KIND);
     }
     if (kind == 1) != (at == 0) {
-        return blank(MISPLACED_RULES);
+        return blank(numbers::MISPLACED_RULES);
     }
     let body = at + 1;
     let length = body_length(kind);
     if book.len() - body < length {
-        return blank(CUT);
+        return blank(numbers::BOOK_CUT);
     }
     let mut r = fields(kind, book, body);
     if !in_range(r) {
-        return blank(OUT_OF_RANGE);
+        return blank(numbers::OUT_OF_RANGE);
     }
     r.next = body + length;
     r
@@ -205,9 +199,13 @@ fn folder_number(declared: bool, firm: bool) -> u8
     ensures { λ n. ⌜ n ≡ ladder ((not declared else 5) ∷ (firm else 6) ∷ []) ⌝ }
 {
     if declared {
-        return DECLARED_BEFORE;
+        return numbers::DECLARED_BEFORE;
     }
-    if firm { 0 } else { FIRM_NOT_DECLARED }
+    if firm {
+        numbers::GRANTED
+    } else {
+        numbers::FIRM_NOT_DECLARED
+    }
 }
 
 // The number of a pair's record, from the set of the steps that p enables.
@@ -215,16 +213,24 @@ fn pair_number(steps: u16, q: usize) -> u8
     ensures { λ n. ⌜ n ≡ ladder ((not (bit steps (q % 16)) else 5) ∷ (not (eqb q 0) else 7) ∷ []) ⌝ }
 {
     if bits::bit16(steps, q) {
-        return DECLARED_BEFORE;
+        return numbers::DECLARED_BEFORE;
     }
-    if q == 0 { ENTERS_CREATE } else { 0 }
+    if q == 0 {
+        numbers::ENTERS_CREATE
+    } else {
+        numbers::GRANTED
+    }
 }
 
 // The number of a record that is refused only where its number is declared.
 fn declared_number(declared: bool) -> u8
     ensures { λ n. ⌜ n ≡ ladder ((not declared else 5) ∷ []) ⌝ }
 {
-    if declared { DECLARED_BEFORE } else { 0 }
+    if declared {
+        numbers::DECLARED_BEFORE
+    } else {
+        numbers::GRANTED
+    }
 }
 
 // The number of a reading, from what is known of the tables.

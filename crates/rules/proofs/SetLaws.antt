@@ -9,7 +9,7 @@ use lib.Dec.{eqb, leb, ltb}
 use lib.Bits.{bitAnd}
 use borrow.Author.Tests.{eqb-true, eq-eqb, not-true, leb-true, lt-ltb}
 use Rattle.bits.specs.Bits.{bit, withBit, maskBelow}
-use Rattle.bits.specs.Bounded.{anyBelow, _⇒_}
+use Rattle.bits.specs.Bounded.{anyBelow, _implies_}
 use Rattle.bits.proofs.Booleans.{
   and-left,
   and-right,
@@ -91,7 +91,7 @@ module _ (t : Tables) (H : Request → Bool) (s : ℕ) where
       let of-firm = eqb-true (folderAt t o .firm) f (and-right (accessed t H s o) _ a) in
       false-intro (otherClass t H s class) (λ all.
       let other =
-      implies-elim (accessed t H s o) _ (all-at 128 (λ o. accessed t H s o ⇒ not (eqb (classOf t o) class)) all o k)
+      implies-elim (accessed t H s o) _ (all-at 128 (λ o. accessed t H s o implies not (eqb (classOf t o) class)) all o k)
       (and-left (accessed t H s o) _ a) in
       false-elim (eqb (classOf t o) class) (not-true _ other)
       (ap (λ (i : ℕ). eqb (firmAt t i .class) class) of-firm ∙ same-class))
@@ -101,7 +101,7 @@ module _ (t : Tables) (H : Request → Bool) (s : ℕ) where
     no-rival : (class : ℕ) → anyBelow 64 (rivalAmong t (maskBelow 64 (opened t H s)) class) ≡ false → otherClass t H s class ≡ true
     unfolding rivalAmong isRival otherClass opened classOf
     no-rival class none =
-        all-of 128 (λ o. accessed t H s o ⇒ not (eqb (classOf t o) class)) (λ o l.
+        all-of 128 (λ o. accessed t H s o implies not (eqb (classOf t o) class)) (λ o l.
         implies-intro (accessed t H s o) _ (λ a.
         let (r, h, access) = accessed-some t H s o a in
         let small = folder-firm t ok o (access-declared t r s o (h .0) access) in

@@ -10,6 +10,7 @@ ghost use Rattle.packed.specs.Packed.{tablesOf};
 ghost use Rattle.judging.specs.Judging.{Ready};
 ghost use Rattle.running.specs.Running.{Turned, Finished};
 use packed::Words;
+use policy::numbers;
 
 // Judges the request at the front of the bytes, and records it where it is granted.
 pub fn put_ready(t: &Words, h: &mut [u8], request: &[u8]) -> u8
@@ -20,7 +21,7 @@ pub fn put_ready(t: &Words, h: &mut [u8], request: &[u8]) -> u8
         ⌝ }
 {
     let number = judging::judge_bytes(t, h, request);
-    if number == judging::GRANTED {
+    if number == numbers::GRANTED {
         history::set_bit(h, request::request_index(request::parse(request)));
     }
     number
@@ -51,7 +52,7 @@ fn run_turn(t: &Words, h: &mut [u8], bytes: &[u8]) -> Turn
     ensures { λ r. ⌜ Turned (tablesOf (now (t .entry))) (now (h .entry)) (now (bytes .entry)) (r .number) (r .next) (now (h .exit)) ⌝ }
 {
     let judged = judging::judge_next(t, h, bytes);
-    if judged.number == judging::GRANTED {
+    if judged.number == numbers::GRANTED {
         history::set_bit(h, judged.index);
     }
     Turn {
@@ -64,7 +65,7 @@ fn run_turn(t: &Words, h: &mut [u8], bytes: &[u8]) -> Turn
 fn granted_by(answer: u8) -> usize
     ensures { λ r. ⌜ r ≡ cond (eqb answer 0) 1 0 ⌝ }
 {
-    if answer == judging::GRANTED {
+    if answer == numbers::GRANTED {
         return 1;
     }
     0

@@ -4,7 +4,7 @@ use mathlib.Core.Logic.{inr}
 use borrow.Author.Tests.{not-true, not-false}
 use denote.Ref.{now}
 use Rattle.bits.proofs.Booleans.{and-both}
-use Rattle.policy.specs.Tables.{personDeclared, inForce}
+use Rattle.policy.specs.Tables.{personDeclared, inForce, wallRule}
 use Rattle.policy.specs.Request.{start}
 use Rattle.policy.specs.Rules.{declared}
 use Rattle.packed.specs.Packed.{tablesOf}
@@ -109,7 +109,7 @@ returns-3 c =
     let roles-off = sym (c .before .before .before .in-force .ensures) ∙ c .before .before .if2 .left in
     sym
     (start-number _ _ (start .pre .tables) _ _ (and-both _ _ (known .0) (known .1))
-    ∙ number-none _ _ _ _ (implies-true (inForce t 0)) (passes _ _ (inr level-off)) (passes _ _ (inr roles-off)))
+    ∙ number-none _ _ _ _ (implies-true (inForce t wallRule)) (passes _ _ (inr level-off)) (passes _ _ (inr roles-off)))
 
 sub-judge-level : tie.Need-sub-judge-level
 sub-judge-level c = search needs

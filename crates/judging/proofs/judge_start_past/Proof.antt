@@ -2,7 +2,7 @@
 use mathlib.Core.Path.{sym, _∙_}
 use mathlib.Core.Logic.{inl, inr, ⊎-elim}
 use borrow.Author.Tests.{not-true, not-false}
-use Rattle.policy.specs.Tables.{inForce}
+use Rattle.policy.specs.Tables.{inForce, wallRule}
 use Rattle.judging.proofs.JudgingLaws.{implies-true, passes, refuses, number-level, number-roles, number-none}
 use Rattle.packed.specs.Packed.{tablesOf}
 use denote.Ref.{now}
@@ -33,7 +33,7 @@ returns c =
     let current-level = c .before .before .current-level in
     let call-compare = c .before .compare in
     sym
-    (number-level _ _ _ _ (implies-true (inForce (tablesOf (now (start .args .t))) 0))
+    (number-level _ _ _ _ (implies-true (inForce (tablesOf (now (start .args .t))) wallRule))
     (refuses _ _ (sym (first-test .ensures) ∙ if1 .taken) (rw (← current-level .ensures) (sym (call-compare .ensures)
     ∙ not-true _ (c .if2 .taken)))))
 
@@ -47,7 +47,7 @@ returns-2 c =
     let if1 = c .before .before .if1 in
     let roles-permit = c .before .roles-permit in
     sym
-    (number-none _ _ _ _ (implies-true (inForce (tablesOf (now (start .args .t))) 0)) (passes _ _ (⊎-elim
+    (number-none _ _ _ _ (implies-true (inForce (tablesOf (now (start .args .t))) wallRule)) (passes _ _ (⊎-elim
     (λ w. inl ((sym (first-test .ensures) ∙ w .0 .taken), rw (← w .2 .ensures) (sym (w .3 .ensures) ∙ not-false _ (w .4 .left))))
     (λ w. inr (sym (first-test .ensures) ∙ w .left)) (if1 .came)))
     (passes _ _ (inl (start .pre .2, sym (roles-permit .ensures) ∙ c .if3 .taken))))
@@ -59,7 +59,7 @@ returns-3 c =
     let if1 = c .before .before .if1 in
     let roles-permit = c .before .roles-permit in
     sym
-    (number-roles _ _ _ _ (implies-true (inForce (tablesOf (now (start .args .t))) 0)) (passes _ _ (⊎-elim
+    (number-roles _ _ _ _ (implies-true (inForce (tablesOf (now (start .args .t))) wallRule)) (passes _ _ (⊎-elim
     (λ w. inl ((sym (first-test .ensures) ∙ w .0 .taken), rw (← w .2 .ensures) (sym (w .3 .ensures) ∙ not-false _ (w .4 .left))))
     (λ w. inr (sym (first-test .ensures) ∙ w .left)) (if1 .came)))
     (refuses _ _ (start .pre .2) (sym (roles-permit .ensures) ∙ c .if3 .left)))

@@ -4,7 +4,7 @@ use denote.Ref.{now}
 use mathlib.Core.Path.{_≡_, sym, _∙_}
 use mathlib.Core.Bool.{true, false}
 use borrow.Author.Tests.{not-true, not-false}
-use Rattle.policy.specs.Tables.{personDeclared, folderDeclared, inForce}
+use Rattle.policy.specs.Tables.{personDeclared, folderDeclared, inForce, pipelineRule}
 use Rattle.policy.specs.Request.{step, setOf}
 use Rattle.policy.proofs.Requests.{step-declared}
 use Rattle.judging.proofs.JudgingLaws.{
@@ -87,7 +87,7 @@ returns-4 c =
     (are-declared .result) (are-declared .ensures) (c .before .before .before .before .before .if2 .left) in
     let d = step-declared t (start .args .s) (start .args .p) (start .args .o) (known .0) (omega arith) (known .1) in
     let access = rw whole-part at (c .before .before .before .judge-step-access .ensures) in
-    let off : inForce t 3 ≡ false = sym (c .before .in-force .ensures) ∙ not-true _ (c .if4 .taken) in
+    let off : inForce t pipelineRule ≡ false = sym (c .before .in-force .ensures) ∙ not-true _ (c .if4 .taken) in
     sym
     (then-pipeline t (setOf (now (start .args .h))) _ _ _ d
     (sym (step-number t (setOf (now (start .args .h))) (start .pre .tables) (start .args .s) (start .args .p) (start .args .o) d)
@@ -124,7 +124,7 @@ returns-5 c =
     let d = step-declared t (start .args .s) (start .args .p) (start .args .o) (known .0) (omega arith) (known .1) in
     let access = rw whole-part at (c .before .before .before .before .before .before .judge-step-access .ensures) in
     let permits = rw whole-part at (c .before .permits .ensures) in
-    let on : inForce t 3 ≡ true =
+    let on : inForce t pipelineRule ≡ true =
     sym (c .before .before .before .before .in-force .ensures) ∙ not-false _ (c .before .before .before .if4 .left) in
     sym
     (then-pipeline t (setOf (now (start .args .h))) _ _ _ d
@@ -143,7 +143,7 @@ returns-6 c =
     let d = step-declared t (start .args .s) (start .args .p) (start .args .o) (known .0) (omega arith) (known .1) in
     let access = rw whole-part at (c .before .before .before .before .before .before .judge-step-access .ensures) in
     let permits = rw whole-part at (c .before .permits .ensures) in
-    let on : inForce t 3 ≡ true =
+    let on : inForce t pipelineRule ≡ true =
     sym (c .before .before .before .before .in-force .ensures) ∙ not-false _ (c .before .before .before .if4 .left) in
     sym
     (then-pipeline t (setOf (now (start .args .h))) _ _ _ d

@@ -3,7 +3,7 @@
 use Prim.Native.Nat.{ℕ, zero, suc, _+_}
 use mathlib.Core.Path.{_≡_, refl}
 use mathlib.Core.Bool.{true}
-use mathlib.Core.List.{List, [], _∷_, _++_, List·Memᴰ·head, List·Memᴰ·tail}
+use mathlib.Core.List.{List, [], _∷_, _++_, List·Memᴰ, List·Memᴰ·head, List·Memᴰ·tail}
 use mathlib.Core.Option.{Option, none, some}
 use lib.Dec.{eqb}
 use lib.ListN.{length, drop}
@@ -30,7 +30,6 @@ use Rattle.policy.specs.Calls.{
   runNumber,
   standingNumber,
 }
-use Rattle.policy.specs.Agreement.{_∈_}
 use Rattle.policy.specs.Demands.{Numbers}
 use Rattle.bits.proofs.Booleans.{by-test}
 use Rattle.policy.proofs.Ladders.{numbered, ladder-member, all-stand-in}
@@ -52,7 +51,7 @@ abbrev pub bookNumbers : List ℕ
 bookNumbers = 0 ∷ 1 ∷ 2 ∷ 3 ∷ 4 ∷ 5 ∷ 6 ∷ 7 ∷ 8 ∷ 9 ∷ []
 
 -- what holds of every refusal, and of all tables with the number 0, holds of what a book comes to
-module _ (P : Loaded → Type 0) (refusal : (n at : ℕ) → n ∈ bookNumbers → P (refusedBook n at))
+module _ (P : Loaded → Type 0) (refusal : (n at : ℕ) → List·Memᴰ n bookNumbers → P (refusedBook n at))
     (loaded : (at : ℕ) (t : Tables) → P (record { number = 0; offset = at; tables = t }))
   where
     pub load-cases : (n at : ℕ) (bytes : List ℕ) (t : Tables) → P (loadFrom n at bytes t)
@@ -70,7 +69,7 @@ module _ (P : Loaded → Type 0) (refusal : (n at : ℕ) → n ∈ bookNumbers �
 -- ---- every number
 
 judge-number : (t : Tables) (h : List ℕ) (r : Option Request)
-    → ladder (callChecks t h ++ requestChecks t (setOf h) r) ∈ (0 ∷ 10 ∷ 11 ∷ 12 ∷ 13 ∷ 14 ∷ 15 ∷ 16 ∷ 17 ∷ [])
+    → List·Memᴰ (ladder (callChecks t h ++ requestChecks t (setOf h) r)) (0 ∷ 10 ∷ 11 ∷ 12 ∷ 13 ∷ 14 ∷ 15 ∷ 16 ∷ 17 ∷ [])
 unfolding callChecks requestChecks
 judge-number t h none = all-stand-in _ _ _ refl (ladder-member (callChecks t h ++ requestChecks t (setOf h) none))
 judge-number t h (some r) = all-stand-in _ _ _ refl (ladder-member (callChecks t h ++ requestChecks t (setOf h) (some r)))
@@ -81,7 +80,7 @@ numbers =
     record {
       blank = λ h. ladder-member _;
       load =
-          λ book. load-cases (λ l. l .number ∈ bookNumbers) (λ n at i. i) (λ at t. List·Memᴰ·head refl) (length book) 0 book _;
+          λ book. load-cases (λ l. List·Memᴰ (l .number) bookNumbers) (λ n at i. i) (λ at t. List·Memᴰ·head refl) (length book) 0 book _;
       judge = λ t h bytes. judge-number t h (requestOf bytes);
       run = λ t h requests answers. ladder-member _;
       standing = λ t h s. ladder-member _;
