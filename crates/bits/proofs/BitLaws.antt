@@ -1,7 +1,7 @@
 -- The bits of a number under "or", "and", halving and setting a bit, and that a number below 2 ^ w is fixed by its w lowest bits. The laws
 -- hold at every width, by induction on the width: a number is its half twice, and its lowest bit. The code's shifts and masks cite them.
 use Prim.Native.Nat.{ℕ, zero, suc, _+_, _-_, _*_, _/_, _%_, _^_, _≤_, _<_, min, max}
-use native.Mathlib.Nat.{pow-suc, div-one, one-mul, mul-comm, mul-assoc, lt-of-le-of-lt}
+use native.Mathlib.Nat.{pow-suc, div-one, one-mul, mul-suc, mul-comm, mul-assoc, mul-le-mul-left, lt-of-le-of-lt, mod-lt}
 use native.Mathlib.Numerals.{one-add}
 use native.Mathlib.Omega.{arith}
 use mathlib.Core.Path.{_≡_, refl, sym, ap, ap₂, _∙_}
@@ -9,10 +9,10 @@ use mathlib.Core.Logic.{_⊎_, inl, inr, ⊎-elim}
 use mathlib.Core.Bool
 use mathlib.Core.Bool.{Bool, true, false, cond, _&&_, _||_, false≢true}
 use lib.Arith.{lt-one}
-use lib.Bits.{bitAnd, bitOr, and-step, or-step, and-shr, or-shr, and-le-l, and-mask, or-lt}
+use lib.Bits.{bitAnd, bitOr, and-step, or-step, and-shr, or-shr, and-le-l, and-mask, or-lt, or-shifted-r}
 use lib.Count.{ones, ones-step}
 use lib.Dec.{eqb, leb, ltb, leb·suc-suc, eqb·zero-suc, eqb·suc-zero, eqb·suc-suc, lit<}
-use lib.Pow.{pow-lt, shr-shr, shl-exact}
+use lib.Pow.{pow-lt, pow-pos, pow-add, shr-shr, shl-exact}
 use borrow.Author.Tests.{leb-true, leb-false, lt-ltb, le-ltb}
 use Rattle.bits.specs.Bits.{bit, withBit}
 use Rattle.bits.specs.Bounded.{countBelow}
@@ -161,19 +161,30 @@ and-assoc a b c =
     bits-ext a (bitAnd (bitAnd a b) c) (bitAnd a (bitAnd b c)) left (lt-of-le-of-lt (and-le-l a (bitAnd b c)) (lt-pow a))
     (λ k l. simp bit-and (Bool.and-assoc (bit a k) (bit b k) (bit c k)))
 
--- ---- the code's shifts and masks
+-- ---- the code's shifts and masks, at a width of 2 ^ v bits: the mask 2 ^ v - 1 takes the number of a bit modulo the width
 
--- `(n >> k) & 1 == 1`
-pub shifted-bit : (n k : ℕ) → eqb (bitAnd (n / 2 ^ k) 1) 1 ≡ bit n k
+-- `(n >> (k & mask)) & 1 == 1`
+pub masked-bit : (v n k : ℕ) → eqb (bitAnd (n / 2 ^ bitAnd k (2 ^ v - 1)) 1) 1 ≡ bit n (k % 2 ^ v)
 unfolding bit
-shifted-bit n k = ap (λ (x : ℕ). eqb x 1) (and-mask (n / 2 ^ k) 1)
+masked-bit v n k = rw (and-mask k v) (ap (λ (x : ℕ). eqb x 1) (and-mask (n / 2 ^ (k % 2 ^ v)) 1))
 
--- `n | (1 << k)` at w bits
-pub or-shifted-one : (w n k : ℕ) → k < w → bitOr n ((1 * 2 ^ k) % 2 ^ w) ≡ withBit n k
+-- `n | (1 << (k & mask))`
+pub with-masked-bit : (v n k : ℕ) → bitOr n ((1 * 2 ^ bitAnd k (2 ^ v - 1)) % 2 ^ 2 ^ v) ≡ withBit n (k % 2 ^ v)
 unfolding withBit
-or-shifted-one w n k l = ap (bitOr n) (shl-exact 1 k w (lit< tt) (omega arith) ∙ one-mul (2 ^ k))
+with-masked-bit v n k =
+    rw (and-mask k v)
+    (ap (bitOr n)
+    (shl-exact 1 (k % 2 ^ v) (2 ^ v) (lit< tt) (let l = mod-lt k (pow-pos v) in omega arith) ∙ one-mul (2 ^ (k % 2 ^ v))))
 
 -- ---- a number above w bits of another
+
+-- `a | (b << w)` at u bits, where b has v: the two have no bit in common
+pub or-above : (w v u a b : ℕ) → a < 2 ^ w → b < 2 ^ v → v + w ≤ u → bitOr a ((b * 2 ^ w) % 2 ^ u) ≡ a + 2 ^ w * b
+or-above w v u a b low high fits =
+    ap (bitOr a) (shl-exact v w u high fits) ∙ or-shifted-r b w a low ∙ omega (arith, mul-comm b (2 ^ w))
+
+pub above-lt : (w v a b : ℕ) → a < 2 ^ w → b < 2 ^ v → a + 2 ^ w * b < 2 ^ (w + v)
+above-lt w v a b low high = omega (arith, mul-le-mul-left (2 ^ w) high, mul-suc (2 ^ w) b, pow-add 2 w v)
 
 pub bit-above : (w a b k : ℕ) → a < 2 ^ w → bit (a + 2 ^ w * b) k ≡ cond (ltb k w) (bit a k) (bit b (k - w))
 bit-above zero a b k l =

@@ -9,42 +9,42 @@ ghost use Rattle.bits.specs.Bounded.{countBelow, lowestBelow};
 pub fn bit8(n: u8, k: usize) -> bool
     ensures { λ r. ⌜ r ≡ bit n (k % 8) ⌝ }
 {
-    (n >> (k % 8)) & 1 == 1
+    (n >> (k & 7)) & 1 == 1
 }
 
 // n with bit k set.
 pub fn with_bit8(n: u8, k: usize) -> u8
     ensures { λ r. ⌜ r ≡ withBit n (k % 8) ⌝ }
 {
-    n | (1 << (k % 8))
+    n | (1 << (k & 7))
 }
 
 // Whether bit k of n is set.
 pub fn bit16(n: u16, k: usize) -> bool
     ensures { λ r. ⌜ r ≡ bit n (k % 16) ⌝ }
 {
-    (n >> (k % 16)) & 1 == 1
+    (n >> (k & 15)) & 1 == 1
 }
 
 // n with bit k set.
 pub fn with_bit16(n: u16, k: usize) -> u16
     ensures { λ r. ⌜ r ≡ withBit n (k % 16) ⌝ }
 {
-    n | (1 << (k % 16))
+    n | (1 << (k & 15))
 }
 
 // Whether bit k of n is set.
 pub fn bit64(n: u64, k: usize) -> bool
     ensures { λ r. ⌜ r ≡ bit n (k % 64) ⌝ }
 {
-    (n >> (k % 64)) & 1 == 1
+    (n >> (k & 63)) & 1 == 1
 }
 
 // n with bit k set.
 pub fn with_bit64(n: u64, k: usize) -> u64
     ensures { λ r. ⌜ r ≡ withBit n (k % 64) ⌝ }
 {
-    n | (1 << (k % 64))
+    n | (1 << (k & 63))
 }
 
 // n, with bit k set if `add`.

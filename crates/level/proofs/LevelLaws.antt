@@ -6,7 +6,7 @@ use native.Mathlib.Nat.{mod-lt, mod-mod, zero-mod, add-comm, add-le-add, mul-le-
 use native.Mathlib.Omega.{arith}
 use mathlib.Core.Path.{_≡_, sym, ap, ap₂, _∙_, subst}
 use mathlib.Core.Bool.{true, _&&_}
-use lib.Bits.{bitAnd, and-self, and-comm, and-le-l, and-zero-l, and-mask}
+use lib.Bits.{bitAnd, and-self, and-comm, and-le-l, and-zero-l, and-mask, and-high}
 use lib.Dec.{leb}
 use lib.Pow as Pow
 use borrow.Author.Tests.{le-leb, leb-true, eq-eqb, eqb-true}
@@ -27,6 +27,11 @@ rank-level w r c h = Pow.high r w h
 pub compartments-level : (w r c : ℕ) → c < 2 ^ w → compartmentsOf w (levelOf w r c) ≡ c
 unfolding levelOf compartmentsOf
 compartments-level w r c h = Pow.low r w h
+
+-- the bits of a level above its compartments are its rank, shifted up
+pub rank-above : (w v a : ℕ) → a < 2 ^ (v + w) → bitAnd a (2 ^ (v + w) - 2 ^ w) ≡ rankOf w a * 2 ^ w
+unfolding rankOf
+rank-above w v a h = and-high a v w ∙ ap (λ (r : ℕ). r * 2 ^ w) (Pow.shr-mod v w h)
 
 pub compartments-lt : (w a : ℕ) → compartmentsOf w a < 2 ^ w
 unfolding compartmentsOf

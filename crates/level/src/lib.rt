@@ -1,7 +1,17 @@
 // Levels (document 01, "Levels"): a rank of 4 bits above a set of 12 compartments, in the 16 bits of a number.
 ghost use mathlib.Core.Path.{_≡_};
-ghost use Prim.Native.Nat.{_%_};
+ghost use Prim.Native.Nat.{_%_, min};
 ghost use Rattle.level.specs.Levels.{rankOf, compartmentsOf, levelOf, atMost, meetOf};
+
+// The smaller of two numbers.
+fn smaller(a: u16, b: u16) -> u16
+    ensures { λ r. ⌜ r ≡ min a b ⌝ }
+{
+    if a <= b {
+        return a;
+    }
+    b
+}
 
 pub struct Level(pub u16);
 
@@ -41,17 +51,11 @@ impl Level {
         self.rank() <= other.rank() && own & others == own
     }
 
-    // The highest level that is at most both: the smaller rank and the common compartments.
+    // The highest level that is at most both: the smaller rank, compared in its place above the compartments, and the common compartments.
     pub fn meet(self, other: Level) -> Level
         ensures { λ r. ⌜ r .0 ≡ meetOf 12 (self .0) (other .0) ⌝ }
     {
-        let own = self.rank();
-        let others = other.rank();
-        let common = self.compartments() & other.compartments();
-        if own <= others {
-            Level::new(own, common)
-        } else {
-            Level::new(others, common)
-        }
+        let rank = smaller(self.0 & 0xf000, other.0 & 0xf000);
+        Level(rank | (self.compartments() & other.compartments()))
     }
 }

@@ -1,6 +1,5 @@
 pub mod Recorded
 pub mod LevelLaws
-pub mod PartsLaws
 pub mod StepLaws
 pub mod TouchedLaws
 pub mod Gathered

@@ -1,21 +1,20 @@
 -- The turns of the pass over a history's bytes: what one folder adds to what a person did, and what one more person started.
-use Prim.Native.Nat.{ℕ, _+_, _*_, _^_, _<_, min}
+use Prim.Native.Nat.{ℕ, _+_, _*_, _^_, _<_}
 use mathlib.Core.Path.{_≡_}
 use mathlib.Core.Bool.{Bool, true, cond, not, _&&_}
 use mathlib.Core.List.{List}
-use lib.Bits.{bitAnd, bitOr}
+use lib.Bits.{bitOr}
 use lib.Dec.{eqb}
 use lib.ListN.{length, getD}
 use Rattle.bits.specs.Bits.{bit, withBit, maskBelow}
 use Rattle.bits.specs.Bounded.{anyBelow, foldBelow}
-use Rattle.level.specs.Levels.{rankOf, compartmentsOf, meetOf}
+use Rattle.level.specs.Levels.{meetOf}
 use Rattle.policy.specs.declared.Folder.{Folder}
 use Rattle.policy.specs.declared.Tables.{Tables}
 use Rattle.policy.specs.Tables.{personAt, folderAt}
 use Rattle.policy.specs.History.{historyBytes, bitAt}
 use Rattle.policy.specs.Request.{read, write, start, step, index}
 use Rattle.past.specs.declared.Past.{Past}
-use Rattle.past.specs.declared.LevelParts.{LevelParts}
 
 -- the history has its length, and the numbers of the person and the folder are in range
 pub record InBounds (h : List ℕ) (s o : ℕ) : Type 0 where
@@ -57,16 +56,6 @@ rightsOn e h s o =
 -- the level after a folder with entry e, which lowers it if it was read and is declared
 unfoldable pub levelAfter : Folder → Bool → ℕ → ℕ
 levelAfter e wasRead level = cond wasRead (cond (e .declared) (meetOf 12 level (e .level .0)) level) level
-
--- the parts of the level after a folder with entry e, which was read and lowers it if it is declared
-unfoldable pub partsAfter : Folder → LevelParts → LevelParts
-partsAfter e parts =
-    cond (e .declared)
-    (record {
-      rank = min (parts .rank) (rankOf 12 (e .level .0));
-      compartments = bitAnd (parts .compartments) (compartmentsOf 12 (e .level .0));
-    })
-    parts
 
 -- the level after folder first + i, where bit i of a set says whether it was read
 unfoldable pub levelAt : Tables → ℕ → ℕ → ℕ → ℕ → ℕ

@@ -5,7 +5,7 @@
 // Rights: the folder's kind for a read, 16 + kind for a write, 32 for a start, 48 + p for step p.
 ghost use mathlib.Core.Path.{_≡_};
 ghost use mathlib.Core.Bool.{true};
-ghost use Prim.Native.Nat.{_+_, _*_, _%_, _≤_, _<_, min};
+ghost use Prim.Native.Nat.{_+_, _*_, _%_, _≤_, _<_};
 ghost use lib.ListN.{length};
 ghost use Rattle.bits.specs.Bits.{maskBelow};
 ghost use Rattle.bits.specs.Bounded.{anyBelow};
@@ -17,7 +17,7 @@ ghost use Rattle.policy.specs.Rules.{currentLevel};
 ghost use Rattle.packed.specs.Packed.{tablesOf};
 ghost use Rattle.past.specs.Past.{pastBelow, pastOf};
 ghost use Rattle.past.specs.Turns.{InBounds, FolderInBounds, isUntouched, levelIf, stepAt, rightsOf};
-ghost use Rattle.past.specs.Turns.{partsAfter, levelOver, pastAfter, startByteAt, started};
+ghost use Rattle.past.specs.Turns.{levelAfter, levelOver, pastAfter, startByteAt, started};
 use level::Level;
 use packed::Words;
 use policy::Folder;
@@ -44,7 +44,7 @@ fn bit_within(h: &[u8], i: usize) -> bool
     requires { ⌜ (length (now h) ≡ historyBytes) × (i < 8 * historyBytes) ⌝ }
     ensures { λ r. ⌜ r ≡ bitAt (now (h .entry)) i ⌝ }
 {
-    bits::bit8(h[i / 8], i)
+    bits::bit8(h[i >> 3], i)
 }
 
 // A byte as a number of 32 bits.
@@ -54,19 +54,19 @@ fn wide(x: u8) -> u32
     x as u32
 }
 
-// The set of the steps that person s applied to folder o. The bits of two steps that follow one another are eight bytes apart: from the
-// last step down, each turn doubles the sum and adds the step's bit, all shifted up by the number of the person's bit in its byte.
+// The set of the steps that person s applied to folder o. The bits of two steps that follow one another are eight bytes apart: each turn
+// shifts the bit of its step up to the step's number, all above the bits of the byte below the person's.
 fn steps_of(h: &[u8], s: usize, o: usize) -> u16
     requires { ⌜ InBounds (now h) s o ⌝ }
     ensures { λ r. ⌜ r ≡ maskBelow 16 (stepAt (now (h .entry)) s o) ⌝ }
 {
-    let last = 2680 + 128 * o + s / 8;
+    let first = 2560 + 128 * o + (s >> 3);
     let one = bits::with_bit8(0, s);
-    let mut sum: u32 = 0;
+    let mut steps: u32 = 0;
     for p in 0..16 {
-        sum = 2 * sum + wide(h[last - 8 * p] & one);
+        steps = steps | (wide(h[first + 8 * p] & one) << p);
     }
-    (sum >> (s % 8)) as u16
+    (steps >> (s & 7)) as u16
 }
 
 // The rights that a read, a write and a set of steps use on a folder of a kind.
@@ -133,8 +133,8 @@ fn past_over(t: &Words, h: &[u8], s: usize, first: usize, before: Past) -> Past
         ⌝ }
     ensures { λ r. ⌜ r ≡ pastBelow (tablesOf (now (t .entry))) (setOf (now (h .entry))) s (first + 64) ⌝ }
 {
-    let read = history::word_at(h, 16 * s + first / 8);
-    let wrote = history::word_at(h, 1024 + 16 * s + first / 8);
+    let read = history::word_at(h, 16 * s + (first >> 3));
+    let wrote = history::word_at(h, 1024 + 16 * s + (first >> 3));
     let mut past = before;
     for i in 0..64 {
         let o = first + i;
@@ -206,53 +206,31 @@ pub fn past_of(t: &Words, h: &[u8], s: usize) -> Past
     }
 }
 
-// A level in two: its rank and its compartments.
-struct LevelParts {
-    rank: u16,
-    compartments: u16,
-}
-
-// The smaller of two ranks.
-fn smaller(a: u16, b: u16) -> u16
-    ensures { λ r. ⌜ r ≡ min a b ⌝ }
-{
-    if a <= b {
-        return a;
-    }
-    b
-}
-
-// The parts of the level after a folder with this entry, which was read: it lowers the level if it is declared.
-fn parts_after(folder: Folder, before: LevelParts) -> LevelParts
-    ensures { λ r. ⌜ r ≡ partsAfter folder before ⌝ }
+// The level after a folder with this entry, which was read: it lowers the level if it is declared.
+fn level_after(folder: Folder, before: Level) -> Level
+    ensures { λ r. ⌜ r .0 ≡ levelAfter folder true (before .0) ⌝ }
 {
     if !folder.declared {
         return before;
     }
     let level = folder.level;
-    LevelParts {
-        rank: smaller(before.rank, level.rank()),
-        compartments: before.compartments & level.compartments(),
-    }
+    before.meet(level)
 }
 
 // The level after the 64 folders from `first` on, of which those in the set were read: bit i for folder first + i. Each turn takes the
-// lowest folder out of the set. The rank and the compartments are lowered apart, and make a level at the end.
+// lowest folder out of the set.
 fn level_over(t: &Words, read: u64, first: usize, before: Level) -> Level
     requires { ⌜ first + 64 ≤ 128 ⌝ }
     ensures { λ r. ⌜ r .0 ≡ levelOver (tablesOf (now (t .entry))) read first 64 (before .0) ⌝ }
 {
-    let mut parts = LevelParts {
-        rank: before.rank(),
-        compartments: before.compartments(),
-    };
+    let mut level = before;
     let mut rest = read;
     while rest != 0 {
         let i = bits::lowest64(rest);
-        parts = parts_after(packed::folder(t, first + i), parts);
+        level = level_after(packed::folder(t, first + i), level);
         rest = bits::without_lowest64(rest);
     }
-    Level::new(parts.rank, parts.compartments)
+    level
 }
 
 // The current level of person s. Only reads are looked at: the bits of 64 folders are one word of the history.

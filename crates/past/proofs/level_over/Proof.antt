@@ -1,55 +1,31 @@
--- `past::level_over` answers the level after 64 folders: at each turn, the rank and the compartments are those of a level that the folders
--- left in the set lower to the answer, since the lowest of them can come first. The set is a number that falls, as it loses a bit at each
--- turn.
-use Prim.Native.Nat.{ℕ, _^_, _<_}
+-- `past::level_over` answers the level after 64 folders: at each turn the folders left in the set lower the level to the answer, since the
+-- lowest of them can come first. The set is a number that falls, as it loses a bit at each turn.
+use Prim.Native.Nat.{_^_, _<_}
 use native.Mathlib.Omega.{arith}
-use mathlib.Core.Path.{_≡_, sym, ap, _∙_}
-use mathlib.Core.Bool.{true}
+use mathlib.Core.Path.{_≡_, refl, sym, _∙_}
 use borrow.Author.Needs.{needs}
 use Rattle.bits.proofs.LowestBit.{lowest-lt, lowest-set, without-lt}
-use Rattle.level.specs.Levels.{levelOf}
-use Rattle.policy.specs.declared.Tables.{Tables}
 use Rattle.packed.specs.Packed.{tablesOf}
-use Rattle.past.specs.declared.LevelParts.{LevelParts}
-use Rattle.past.specs.Turns.{levelAfter, partsAfter, levelOver}
+use Rattle.past.specs.Turns.{levelOver}
 use Rattle.past.proofs.LevelLaws.{level-none, level-lowest}
-use Rattle.past.proofs.PartsLaws.{partsOf, parts-read, parts-level, parts-within, parts-lowered, level-lowered-lt}
 use Rattle.past.proofs.level_over.Statement.{statement}
 use Rattle.past.proofs.level_over.Tie as tie
-
--- the parts are those of a level that the folders left in the set lower to the answer
-record Lowering (t : Tables) (rest first answer : ℕ) (parts : LevelParts) : Type 0 where
-  level : ℕ
-  fits : level < 2 ^ 16
-  of-level : parts ≡ partsOf level
-  lowered : levelOver t rest first 64 level ≡ answer
+use Rattle.past.proofs.level_over.Reads as reads
+use Rattle.past.proofs.level_over.Lts as lts
+use Rattle.bits.proofs.lowest64.Reads as lowest64-reads
+use Rattle.bits.proofs.without_lowest64.Reads as without-lowest64-reads
+use Rattle.packed.proofs.folder.Reads as folder-reads
+use Rattle.past.proofs.level_after.Reads as level-after-reads
 
 abbrev Inv-loop : tie.InvT-loop
-Inv-loop t read first parts₀ rest₀ parts rest =
-    (rest < 2 ^ 64)
-    × Lowering (tablesOf t) rest first (levelOver (tablesOf t) read first 64 (levelOf 12 (parts₀ .rank) (parts₀ .compartments))) parts
+Inv-loop t read first level₀ rest₀ level rest =
+    (rest < 2 ^ 64) × (levelOver (tablesOf t) rest first 64 (level .0) ≡ levelOver (tablesOf t) read first 64 (level₀ .0))
 
 abbrev μ-loop : tie.MeasureT-loop
-μ-loop t read first parts₀ rest₀ parts rest = rest
-
-rank-requires : tie.Need-rank-requires Inv-loop μ-loop
-rank-requires c κs = search needs
-
-compartments-requires : tie.Need-compartments-requires Inv-loop μ-loop
-compartments-requires c κs = search needs
+μ-loop t read first level₀ rest₀ level rest = rest
 
 loop-holds : tie.Need-loop-holds Inv-loop μ-loop
-loop-holds c =
-    let args = c .before .before .args in
-    let read = parts-read (args .before .0) (c .before .rank .ensures) (c .compartments .ensures) in (
-      search needs,
-      record {
-        level = args .before .0;
-        fits = search needs;
-        of-level = read;
-        lowered = ap (levelOver (tablesOf (args .t .now)) (args .read) (args .first) 64) (sym (parts-level (args .before .0) read));
-      },
-    )
+loop-holds c = (search needs, refl)
 
 lowest64-requires : tie.Need-lowest64-requires Inv-loop μ-loop
 lowest64-requires c κs = search needs
@@ -64,8 +40,8 @@ folder-requires c κs =
     let looped = c .before .before .loop in
     omega (arith, c .lowest64 .ensures, lowest-lt 64 (looped .rest) (omega arith) (looped .inv .0))
 
-parts-after-requires : tie.Need-parts-after-requires Inv-loop μ-loop
-parts-after-requires c κs = search needs
+level-after-requires : tie.Need-level-after-requires Inv-loop μ-loop
+level-after-requires c κs = search needs
 
 without-lowest64-requires : tie.Need-without-lowest64-requires Inv-loop μ-loop
 without-lowest64-requires c κs = search needs
@@ -77,38 +53,25 @@ loop-less c =
 
 loop-again : tie.Need-loop-again Inv-loop μ-loop
 loop-again c =
-    let args = c .before .before .before .before .before .before .before .before .args in
+    let args = c .before .before .before .before .before .before .args in
     let looped = c .before .before .before .before .before .loop in
-    let inv = looped .inv .1 in
-    let t = tablesOf (args .t .now) in
-    let folder = c .before .before .folder in
-    let entry = folder .result in
-    let lowest = c .before .before .before .lowest64 .ensures in (
+    let t = tablesOf (args .t .now) in (
       search needs,
-      record {
-        level = levelAfter entry true (inv .level);
-        fits = level-lowered-lt entry (inv .level) (inv .fits);
-        of-level = c .before .parts-after .ensures ∙ ap (partsAfter entry) (inv .of-level) ∙ parts-lowered entry (inv .level);
-        lowered = rw (c .without-lowest64 .ensures, folder .ensures, lowest)
-            (sym (level-lowest t (args .first) 64 (looped .rest) (inv .level) (omega arith) (looped .inv .0)) ∙ inv .lowered);
-      },
+      rw (
+        c .without-lowest64 .ensures,
+        c .before .level-after .ensures,
+        c .before .before .folder .ensures,
+        c .before .before .before .lowest64 .ensures,
+      )
+          (sym (level-lowest t (args .first) 64 (looped .rest) (looped .level .0) (omega arith) (looped .inv .0)) ∙ looped .inv .1),
     )
-
-new-requires : tie.Need-new-requires Inv-loop μ-loop
-new-requires c κs = search needs
 
 returns : tie.Need-returns Inv-loop μ-loop
 returns c =
-    let args = c .before .before .before .before .before .args in
-    let looped = c .before .before .loop in
-    let inv = looped .inv .1 in
-    let t = tablesOf (args .t .now) in
+    let args = c .before .before .args in
+    let looped = c .before .loop in
     let none : looped .rest ≡ 0 = omega arith in
-    let read =
-    parts-read (args .before .0) (c .before .before .before .before .rank .ensures) (c .before .before .before .compartments .ensures) in
-    c .new .ensures ∙ parts-within (inv .level) (inv .fits) (inv .of-level)
-    ∙ sym (level-none t (args .first) 64 (inv .level)) ∙ rw none at (inv .lowered)
-    ∙ ap (levelOver t (args .read) (args .first) 64) (parts-level (args .before .0) read)
+    sym (level-none (tablesOf (args .t .now)) (args .first) 64 (looped .level .0)) ∙ rw none at (looped .inv .1)
 
 pub level-over-spec : {M : Type 1} → statement M
 level-over-spec =
@@ -116,15 +79,12 @@ level-over-spec =
     (tie.spec
     Inv-loop
     μ-loop
-    rank-requires
-    compartments-requires
     loop-holds
     lowest64-requires
     add-folder
     folder-requires
-    parts-after-requires
+    level-after-requires
     without-lowest64-requires
     loop-less
     loop-again
-    new-requires
     returns)

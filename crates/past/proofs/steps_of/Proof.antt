@@ -1,27 +1,28 @@
--- `past::steps_of` answers the set of the steps that a person applied to a folder: after p turns the sum is the p last steps, shifted up
--- by the number of the person's bit, and at the end it is shifted down.
-use Prim.Native.Nat.{ℕ, _+_, _-_, _*_, _≤_}
+-- `past::steps_of` answers the set of the steps that a person applied to a folder: after p turns it holds the steps below p, shifted up by
+-- the number of the person's bit, and at the end it is shifted down.
+use Prim.Native.Nat.{ℕ, _-_, _*_, _%_, _^_, _≤_}
 use native.Mathlib.Omega.{arith}
 use mathlib.Core.Path.{_≡_, refl, ap, _∙_}
+use lib.Bits.{bitOr, mask-lt}
 use borrow.Author.Needs.{needs}
-use Rattle.past.proofs.StepLaws.{lastSteps, no-steps, steps-small, steps-step, all-steps, steps-fit}
+use Rattle.past.proofs.StepLaws.{stepsBelow, no-steps, steps-step, all-steps, steps-fit}
 use Rattle.past.proofs.steps_of.Statement.{statement}
 use Rattle.past.proofs.steps_of.Tie as tie
 
 abbrev Inv-loop : tie.InvT-loop
-Inv-loop h s o last one sum₀ p₀ sum p = (p ≤ 16) × (sum ≡ lastSteps h s o p)
+Inv-loop h s o first one steps₀ p₀ steps p = (p ≤ 16) × (steps ≡ stepsBelow h s o p)
 
 abbrev μ-loop : tie.MeasureT-loop
-μ-loop h s o last one sum₀ p₀ sum p = 16 - p
+μ-loop h s o first one steps₀ p₀ steps p = 16 - p
 
-mul-last : tie.Need-mul-last Inv-loop μ-loop
-mul-last c = search needs
+mul-first : tie.Need-mul-first Inv-loop μ-loop
+mul-first c = search needs
 
-add-last : tie.Need-add-last Inv-loop μ-loop
-add-last c = search needs
+add-first : tie.Need-add-first Inv-loop μ-loop
+add-first c = search needs
 
-add-last-2 : tie.Need-add-last-2 Inv-loop μ-loop
-add-last-2 c = search needs
+add-first-2 : tie.Need-add-first-2 Inv-loop μ-loop
+add-first-2 c = search needs
 
 with-bit8-requires : tie.Need-with-bit8-requires Inv-loop μ-loop
 with-bit8-requires c κs = search needs
@@ -29,17 +30,11 @@ with-bit8-requires c κs = search needs
 loop-holds : tie.Need-loop-holds Inv-loop μ-loop
 loop-holds c = (search needs, no-steps _ _ _)
 
-mul-sum : tie.Need-mul-sum Inv-loop μ-loop
-mul-sum c =
-    let args = c .before .before .before .before .args in
-    let small = steps-small (args .h .now) (args .s) (args .o) (c .before .loop .p) in
-    omega arith
-
 mul-wide : tie.Need-mul-wide Inv-loop μ-loop
 mul-wide c = search needs
 
-sub-wide : tie.Need-sub-wide Inv-loop μ-loop
-sub-wide c = search needs
+add-wide : tie.Need-add-wide Inv-loop μ-loop
+add-wide c = search needs
 
 shared-slice-read-wide : tie.Need-shared-slice-read-wide Inv-loop μ-loop
 shared-slice-read-wide c = search needs
@@ -47,11 +42,11 @@ shared-slice-read-wide c = search needs
 wide-requires : tie.Need-wide-requires Inv-loop μ-loop
 wide-requires c κs = search needs
 
-add-sum : tie.Need-add-sum Inv-loop μ-loop
-add-sum c =
-    let args = c .before .before .before .before .before .before .args in
-    let small = steps-small (args .h .now) (args .s) (args .o) (c .before .before .before .loop .p) in
-    omega arith
+cast-steps : tie.Need-cast-steps Inv-loop μ-loop
+cast-steps c = search needs
+
+shl-steps : tie.Need-shl-steps Inv-loop μ-loop
+shl-steps c = search needs
 
 add-p : tie.Need-add-p Inv-loop μ-loop
 add-p c = search needs
@@ -64,16 +59,16 @@ loop-again c =
     let looped = c .before .before .before in
     let args = looped .before .before .before .args in (
       search needs,
-      ap (λ (n : ℕ). 2 * looped .loop .sum + n) (c .wide .ensures .0)
+      ap (λ (n : ℕ). bitOr (looped .loop .steps) (n * 2 ^ looped .loop .p % 4294967296)) (c .wide .ensures .0)
           ∙ steps-step (args .h .now) (args .s) (args .o) (looped .loop .p) (omega arith) (looped .loop .inv .1) refl
           (looped .before .with-bit8 .ensures),
     )
 
 cast-result : tie.Need-cast-result Inv-loop μ-loop
-cast-result c = search needs
+cast-result c = omega (arith, mask-lt (c .before .before .before .before .args .s) 3)
 
 shr-result : tie.Need-shr-result Inv-loop μ-loop
-shr-result c = search needs
+shr-result c = omega (arith, mask-lt (c .before .before .before .before .args .s) 3)
 
 cast-result-2 : tie.Need-cast-result-2 Inv-loop μ-loop
 cast-result-2 c =
@@ -92,17 +87,17 @@ steps-of-spec =
     (tie.spec
     Inv-loop
     μ-loop
-    mul-last
-    add-last
-    add-last-2
+    mul-first
+    add-first
+    add-first-2
     with-bit8-requires
     loop-holds
-    mul-sum
     mul-wide
-    sub-wide
+    add-wide
     shared-slice-read-wide
     wide-requires
-    add-sum
+    cast-steps
+    shl-steps
     add-p
     loop-less
     loop-again
