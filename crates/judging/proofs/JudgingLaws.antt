@@ -107,16 +107,19 @@ module _ (t : Tables) (w l r : Bool) where
   unfolding numberOf ladder
   number-level a b = rw (a, b)
 
-  pub number-roles : (inForce t wallRule implies w) ≡ true → (inForce t lowWaterRule implies l) ≡ true → (inForce t rolesRule implies r) ≡ false → numberOf t w l r ≡ 16
+  pub number-roles : (inForce t wallRule implies w) ≡ true → (inForce t lowWaterRule implies l) ≡ true
+      → (inForce t rolesRule implies r) ≡ false → numberOf t w l r ≡ 16
   unfolding numberOf ladder
   number-roles a b c = rw (a, b, c)
 
-  pub number-none : (inForce t wallRule implies w) ≡ true → (inForce t lowWaterRule implies l) ≡ true → (inForce t rolesRule implies r) ≡ true → numberOf t w l r ≡ 0
+  pub number-none : (inForce t wallRule implies w) ≡ true → (inForce t lowWaterRule implies l) ≡ true
+      → (inForce t rolesRule implies r) ≡ true → numberOf t w l r ≡ 0
   unfolding numberOf ladder
   number-none a b c = rw (a, b, c)
 
 -- low-water alone, where the wall permits and roles are not in force
-pub number-alone : (t : Tables) (l r : Bool) → inForce t lowWaterRule ≡ true → inForce t rolesRule ≡ false → numberOf t true l r ≡ cond l 0 15
+pub number-alone : (t : Tables) (l r : Bool) → inForce t lowWaterRule ≡ true → inForce t rolesRule ≡ false
+    → numberOf t true l r ≡ cond l 0 15
 unfolding numberOf ladder
 number-alone t l r on off = rw (on, off, implies-true (inForce t wallRule))
 
@@ -189,8 +192,10 @@ module _ (t : Tables) (H : Request → Bool) where
   unfolding judged requestChecks ladder numberOf pipeline
   then-pipeline s p o d z =
       rw d
-      (after-zero (inForce t wallRule implies wall t H (step s p o)) (inForce t lowWaterRule implies lowWater t (currentLevel t H) (step s p o))
-      (inForce t rolesRule implies roles t H (step s p o)) (cond (inForce t pipelineRule implies pipelineStep t H p o) 0 17) z)
+      (after-zero (inForce t wallRule implies wall t H (step s p o))
+      (inForce t lowWaterRule implies lowWater t (currentLevel t H) (step s p o))
+      (inForce t rolesRule implies roles t H (step s p o))
+      (cond (inForce t pipelineRule implies pipelineStep t H p o) 0 17) z)
 
   pub before-pipeline : (s p o n : ℕ) → declared t (step s p o) ≡ true
       → n ≡ numberOf t (wall t H (step s p o)) (lowWater t (currentLevel t H) (step s p o)) (roles t H (step s p o)) → n ≢ 0
@@ -198,8 +203,10 @@ module _ (t : Tables) (H : Request → Bool) where
   unfolding judged requestChecks ladder numberOf
   before-pipeline s p o n d e k =
       rw d
-      (after-refusal (inForce t wallRule implies wall t H (step s p o)) (inForce t lowWaterRule implies lowWater t (currentLevel t H) (step s p o))
-      (inForce t rolesRule implies roles t H (step s p o)) (cond (inForce t pipelineRule implies pipeline t H (step s p o)) 0 17) (λ z. k (e ∙ z)))
+      (after-refusal (inForce t wallRule implies wall t H (step s p o))
+      (inForce t lowWaterRule implies lowWater t (currentLevel t H) (step s p o))
+      (inForce t rolesRule implies roles t H (step s p o))
+      (cond (inForce t pipelineRule implies pipeline t H (step s p o)) 0 17) (λ z. k (e ∙ z)))
       ∙ sym e
 
   module _ (ok : given t ≡ true) where

@@ -27,7 +27,10 @@ pub record Ready (t : Tables) (h : List ℕ) : Type 0 where
 -- the number of wall, low-water and roles, each by whether it permits
 unfoldable pub numberOf : Tables → Bool → Bool → Bool → ℕ
 numberOf t wall level roles =
-    ladder (((inForce t wallRule implies wall) else 14) ∷ ((inForce t lowWaterRule implies level) else 15) ∷ ((inForce t rolesRule implies roles) else 16) ∷ [])
+    ladder (((inForce t wallRule implies wall) else 14)
+    ∷ ((inForce t lowWaterRule implies level) else 15)
+    ∷ ((inForce t rolesRule implies roles) else 16)
+    ∷ [])
 
 -- the wall or roles are in force
 unfoldable pub asksPast : Tables → Bool

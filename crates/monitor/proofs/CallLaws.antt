@@ -39,7 +39,7 @@ use Rattle.policy.specs.Calls.{
   standing,
 }
 use Rattle.policy.proofs.Refusals.{refusals}
-use Rattle.policy.proofs.Runs.{runs}
+use Rattle.policy.proofs.Runs.{counts-fit as room}
 use Rattle.policy.proofs.Histories.{judge-over}
 use Rattle.policy.proofs.Ladders.{permit-first, permit-rest, ladder-zero, ladder-after}
 use Rattle.judging.specs.Judging.{Ready}
@@ -155,9 +155,7 @@ counts-fit {t} {h} {requests} {lent} is =
     rw (is .returned)
     (⊎-elim
     (λ y.
-    let zero = eqb-true (runNumber t h requests lent) 0 y in
-    let run = runs t h requests lent in
-    omega (arith, run .together zero, run .zero .0 zero .2))
+    rw y (room t h requests lent (eqb-true (runNumber t h requests lent) 0 y)))
     (λ n. rw n (omega arith))
     (decide (eqb (runNumber t h requests lent) 0)))
 

@@ -2,7 +2,7 @@
 -- Each bounded search finds exactly the requests of the set, since a declared request has numbers within the bounds.
 use Prim.Native.Nat.{ℕ, _<_}
 use mathlib.Core.Path.{_≡_, refl}
-use mathlib.Core.Logic.{_⊎_, ⊎-elim}
+use mathlib.Core.Logic.{⊎-elim}
 use mathlib.Core.Bool.{Bool, true, _&&_, _||_}
 use lib.Dec.{leb, ltb}
 use borrow.Author.Tests.{ltb-true}

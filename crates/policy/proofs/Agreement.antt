@@ -29,7 +29,8 @@ use Rattle.policy.specs.Tables.{inForce, lowWaterRule, pipelineRule}
 use Rattle.policy.specs.Rulebook.{given, loadBook}
 use Rattle.policy.specs.Request.{Request, read, write, start, step, member}
 use Rattle.policy.specs.Agreement.{FromBlank, granted, SameSet, Done, stepsOn, Throughout, Claim}
-use Rattle.policy.proofs.Circles.{Way, no-circle}
+use Rattle.policy.specs.Ways.{Way, Enables}
+use Rattle.policy.proofs.Circles.{no-circle}
 use Rattle.policy.proofs.Granted.{grantedOver}
 use Rattle.policy.proofs.Histories.{
   same-members,
@@ -77,7 +78,7 @@ perm-in (List·Permᴰ·swap e f) x h =
 perm-in (List·Permᴰ·trans d d′) x h = perm-in d x (perm-in d′ x h)
 
 module _ (t : Tables) (ok : given t ≡ true) (h h′ : List ℕ) (blank : FromBlank h) (blank′ : FromBlank h′) (xs ys : List (List ℕ)) where
-  steps-in-order : inForce t pipelineRule ≡ true → ((p : ℕ) → Way t p p → ⊥) → SameSet (granted t h xs) (granted t h′ ys)
+  steps-in-order : inForce t pipelineRule ≡ true → ((p : ℕ) → Way (Enables t) p p → ⊥) → SameSet (granted t h xs) (granted t h′ ys)
       → (o : ℕ) → stepsOn o (granted t h xs) ≡ stepsOn o (granted t h′ ys)
   unfolding stepsOn
   steps-in-order on none same o =

@@ -1,11 +1,11 @@
 -- Tables of their type that pass the test are exactly those that some rulebook of bytes loads to. A book for such tables is written entry
 -- by entry: the rules, then each declared firm, person, folder and role, then each pair; each of these records passes its checks.
-use Prim.Native.Nat.{ℕ, zero, suc, _^_, _<_}
+use Prim.Native.Nat.{ℕ, _^_, _<_}
 use native.Mathlib.Omega.{arith}
 use mathlib.Core.Path.{_≡_, refl, sym, ap, _∙_}
-use mathlib.Core.Logic.{_⊎_, ⊎-elim, _≢_}
+use mathlib.Core.Logic.{⊎-elim, _≢_}
 use mathlib.Core.Bool.{Bool, true, false, _&&_}
-use mathlib.Core.List.{List, [], _∷_, List·Memᴰ, List·Memᴰ·head, List·Memᴰ·tail}
+use mathlib.Core.List.{List}
 use lib.Dec.{leb, ltb}
 use lib.ListN.{length, getD, set, replicate}
 use lib.Seq.{set-getD, set-set, getD-set-same}
@@ -50,9 +50,10 @@ use Rattle.policy.specs.Rulebook.{
   folderGiven,
   roleGiven,
 }
-use Rattle.policy.specs.Demands.{OfType, Gives}
+use Rattle.policy.specs.Given.{OfType, Gives}
 use Rattle.policy.proofs.Sound.{Fits}
 use Rattle.policy.proofs.Loads.{loaded-given}
+use Rattle.policy.proofs.Circles.{member-at}
 use Rattle.policy.proofs.GivenEntries.{Given, given-entries, firm-cases, person-cases, folder-cases, role-cases}
 use Rattle.policy.proofs.Filling.{fill, fill-set}
 use Rattle.policy.proofs.Writing.{kindOf}
@@ -161,12 +162,6 @@ pair-next m fs ps os ks done p q x l h n z b r =
     }))
 
 -- ---- the tables are reached
-
--- an entry of an array is a member of it
-member-at : {A : Type 0} (l : List A) (k : ℕ) (d : A) → k < length l → List·Memᴰ (getD l k d) l
-member-at [] k d h = absurd (omega arith)
-member-at (x ∷ l) zero d h = List·Memᴰ·head refl
-member-at (x ∷ l) (suc k) d h = List·Memᴰ·tail (member-at l k d (omega arith))
 
 module _ (t : Tables) (o : OfType t) (g : Given t) where
   firms-reached : (ps : List Person) (os : List Folder) (ks : List Role) (ss : List ℕ)

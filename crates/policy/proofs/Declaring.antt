@@ -37,9 +37,8 @@ use Rattle.policy.specs.Rulebook.{
   recordsFrom,
   recordsOf,
 }
-use Rattle.policy.specs.Demands.{AllPermit, Outcome, no-byte, refused, next, end-refused, loaded}
-use Rattle.policy.proofs.Ladders.{permit-none, permit-more, permit-first, permit-rest}
-use Rattle.policy.proofs.Outcomes.{refusal-not-zero, fewer-bytes, loading}
+use Rattle.policy.proofs.Ladders.{AllPermit, permit-none, permit-more, permit-first, permit-rest}
+use Rattle.policy.proofs.Outcomes.{Outcome, no-byte, refused, next, end-refused, loaded, refusal-not-zero, fewer-bytes, loading}
 
 -- ---- the checks of one record
 
@@ -122,11 +121,11 @@ pub data Declares : Tables → List Record → Tables → Type 0 where
       {t t′ : Tables} {r : Record} {rs : List Record} → Passes t r → isRules r ≡ false
       → Declares (declare t r) rs t′ → Declares t (r ∷ rs) t′
 
-records-end : (n : ℕ) (body : List ℕ) → recordsFrom (suc n) (0 ∷ body) ≡ []
+pub records-end : (n : ℕ) (body : List ℕ) → recordsFrom (suc n) (0 ∷ body) ≡ []
 unfolding recordsFrom
 records-end n body = refl
 
-records-next : (n kind : ℕ) (body : List ℕ) → kind ≢ 0
+pub records-next : (n kind : ℕ) (body : List ℕ) → kind ≢ 0
     → recordsFrom (suc n) (kind ∷ body) ≡ recordOf kind body ∷ recordsFrom n (drop (bodyLength kind) body)
 unfolding recordsFrom
 records-next n kind body z = rw (ne-eqb kind 0 z)

@@ -2,14 +2,14 @@
 -- granted requests in step, and so does a list of puts. Hence histories from blank are equal exactly where the granted sets are.
 use Prim.Native.Nat.{ℕ}
 use mathlib.Core.Path.{_≡_, refl, sym, ap, ap₂, _∙_, fun-ext}
-use mathlib.Core.Logic.{_↔_, _≢_}
+use mathlib.Core.Logic.{_⊎_, inl, inr, ⊎-elim, _↔_}
 use mathlib.Core.Bool.{Bool, true, false, _||_, or-assoc, or-false}
 use mathlib.Core.List.{List, [], _∷_, reverse, reverseAux, reverse-reverse}
 use mathlib.Core.Option.{Option, none, some}
 use lib.Dec.{eqb}
 use lib.ListN.{length}
 use borrow.Author.Tests.{eqb-true, eq-eqb}
-use Rattle.bits.proofs.Booleans.{bool-ext, or-swap}
+use Rattle.bits.proofs.Booleans.{or-cases, or-left, or-right, bool-ext, or-swap}
 use Rattle.policy.specs.declared.Tables.{Tables}
 use Rattle.policy.specs.Checks.{ladder}
 use Rattle.policy.specs.Rulebook.{given}
@@ -30,11 +30,10 @@ use Rattle.policy.specs.Calls.{
   putHistories,
 }
 use Rattle.policy.specs.Agreement.{FromBlank, answeredZero, granted, SameSet}
-use Rattle.policy.specs.Demands.{FirstRefusal}
-use Rattle.policy.proofs.Requests.{member-none, member-more, member-in, in-member, declared-place}
+use Rattle.policy.proofs.Requests.{same-eq, same-refl, member-none, member-more, member-in, in-member, declared-place}
 use Rattle.policy.proofs.Places.{set-recorded, set-zeros, Sized, sized-zeros, sized-recorded, set-history}
 use Rattle.policy.proofs.Granted.{judge-passed, putOver, grantedOver}
-use Rattle.policy.proofs.Ladders.{permit-none, permit-more, ladder-after, ladder-first}
+use Rattle.policy.proofs.Ladders.{permit-none, permit-more, ladder-after}
 
 -- ---- judging
 
@@ -59,11 +58,11 @@ members-same g g′ m r =
 -- ---- the bytes and the list of granted requests, in step
 
 -- the history h holds the requests of g, and no others
-pub record Stands (h : List ℕ) (g : List Request) : Type 0 where
+pub record InStep (h : List ℕ) (g : List Request) : Type 0 where
   pub sized : Sized h
   pub holds : (r : Request) → setOf h r ≡ member g r
 
-pub stands-blank : (h : List ℕ) → FromBlank h → Stands h []
+pub stands-blank : (h : List ℕ) → FromBlank h → InStep h []
 unfolding blankHistory
 stands-blank h (before, n, e) =
     let all-zero : h ≡ zeros historyBytes = e ∙ rw n in
@@ -91,18 +90,18 @@ member-reversed (q ∷ l) g r =
     member-reversed l (q ∷ g) r ∙ or-swap (member l r) (same q r) (member g r) ∙ sym (or-assoc (same q r) (member l r) (member g r))
 
 module _ (t : Tables) (ok : given t ≡ true) where
-  pub judge-stands : (h : List ℕ) (g : List Request) (bytes : List ℕ) → Stands h g
+  pub judge-stands : (h : List ℕ) (g : List Request) (bytes : List ℕ) → InStep h g
       → judgeNumber t h bytes ≡ judgeOver t (member g) bytes
   judge-stands h g bytes s =
       judge-over t h bytes ok (s .sized .size) ∙ ap (λ (H : Request → Bool). judgeOver t H bytes) (fun-ext (s .holds))
 
-  pub stands-put : (h : List ℕ) (g : List Request) (bytes : List ℕ) → Stands h g
-      → Stands (putHistory t h bytes) (addedIf (eqb (judgeOver t (member g) bytes) 0) (requestOf bytes) g)
+  pub stands-put : (h : List ℕ) (g : List Request) (bytes : List ℕ) → InStep h g
+      → InStep (putHistory t h bytes) (addedIf (eqb (judgeOver t (member g) bytes) 0) (requestOf bytes) g)
   unfolding putHistory recordedIf addedIf
   stands-put h g bytes s = rw (judge-stands h g bytes s) (go (eqb (judgeOver t (member g) bytes) 0) refl)
     where
       go : (passed : Bool) → eqb (judgeOver t (member g) bytes) 0 ≡ passed
-          → Stands (recordedIf passed h (requestOf bytes)) (addedIf passed (requestOf bytes) g)
+          → InStep (recordedIf passed h (requestOf bytes)) (addedIf passed (requestOf bytes) g)
       go false e = s
       go true e =
           let (r, is, passed) = judge-passed t (member g) bytes (eqb-true _ 0 e) in
@@ -114,13 +113,13 @@ module _ (t : Tables) (ok : given t ≡ true) where
                 ∙ ap (λ (b : Bool). same r q || b) (s .holds q) ∙ sym (member-more r q g);
           })
 
-  pub stands-puts : (h : List ℕ) (g : List Request) (calls : List (List ℕ)) → Stands h g
-      → Stands (putHistories t h calls) (grantedOver t g calls)
+  pub stands-puts : (h : List ℕ) (g : List Request) (calls : List (List ℕ)) → InStep h g
+      → InStep (putHistories t h calls) (grantedOver t g calls)
   unfolding putHistories grantedOver putOver
   stands-puts h g [] s = s
   stands-puts h g (bytes ∷ calls) s = stands-puts (putHistory t h bytes) _ calls (stands-put h g bytes s)
 
-  numbers-stand : (h : List ℕ) (g : List Request) (calls : List (List ℕ)) → Stands h g → putNumbers t h calls ≡ judgeList t g calls
+  numbers-stand : (h : List ℕ) (g : List Request) (calls : List (List ℕ)) → InStep h g → putNumbers t h calls ≡ judgeList t g calls
   unfolding putNumbers judgeList
   numbers-stand h g [] s = refl
   numbers-stand h g (bytes ∷ calls) s =
@@ -145,10 +144,10 @@ module _ (t : Tables) (ok : given t ≡ true) where
   granted-member h calls r b = sym (rw (over-granted h calls b, member-reversed, member-none, or-false))
 
   -- the history after the calls holds the granted requests, in whichever order
-  pub after-puts : (h : List ℕ) (calls : List (List ℕ)) → FromBlank h → Stands (putHistories t h calls) (grantedOver t [] calls)
+  pub after-puts : (h : List ℕ) (calls : List (List ℕ)) → FromBlank h → InStep (putHistories t h calls) (grantedOver t [] calls)
   after-puts h calls b = stands-puts h [] calls (stands-blank h b)
 
-  pub stands-granted : (h : List ℕ) (calls : List (List ℕ)) → FromBlank h → Stands (putHistories t h calls) (granted t h calls)
+  pub stands-granted : (h : List ℕ) (calls : List (List ℕ)) → FromBlank h → InStep (putHistories t h calls) (granted t h calls)
   stands-granted h calls b =
       let s = after-puts h calls b in
       record { sized = s .sized; holds = λ r. s .holds r ∙ sym (granted-member h calls r b) }
@@ -182,13 +181,10 @@ judge-request t h bytes r ok n is =
 
 -- where it is granted, put adds it to the set, and nothing else
 pub added : (t : Tables) (h bytes : List ℕ) (r : Request) → length h ≡ historyBytes → requestOf bytes ≡ some r → declared t r ≡ true
-    → judgeNumber t h bytes ≡ 0 → (q : Request) → setOf (putHistory t h bytes) q ≡ same r q || setOf h q
+    → judgeNumber t h bytes ≡ 0 → (q : Request) → (setOf (putHistory t h bytes) q ≡ true) ↔ ((q ≡ r) ⊎ (setOf h q ≡ true))
 unfolding putHistory recordedIf
-added t h bytes r n is d e q = rw (e, is) (set-recorded h n r q (declared-place t r d))
-
--- where it is not, it gets the number of the first check that refuses
-pub otherwise : (t : Tables) (h bytes : List ℕ) (r : Request) → given t ≡ true → length h ≡ historyBytes → requestOf bytes ≡ some r
-    → judgeNumber t h bytes ≢ 0 → FirstRefusal (requestChecks t (setOf h) (some r)) (judgeNumber t h bytes)
-otherwise t h bytes r ok n is e =
-    let j = judge-request t h bytes r ok n is in
-    rw j (ladder-first (requestChecks t (setOf h) (some r)) (λ z. e (j ∙ z)))
+added t h bytes r n is d e q =
+    let now : setOf (putHistory t h bytes) q ≡ same r q || setOf h q = rw (e, is) (set-recorded h n r q (declared-place t r d)) in (
+      λ w. ⊎-elim (λ s. inl (sym (same-eq r q s))) (λ s. inr s) (or-cases (same r q) (setOf h q) (sym now ∙ w)),
+      λ w. now ∙ ⊎-elim (λ (i : q ≡ r). or-left (same r q) (setOf h q) (rw i (same-refl r))) (λ s. or-right (same r q) _ s) w,
+    )

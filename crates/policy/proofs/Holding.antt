@@ -2,12 +2,10 @@
 -- value, and later records leave it, since no number is declared twice; an entry that no record gives stays as in the empty tables.
 use Prim.Native.Nat.{ℕ, _≤_}
 use mathlib.Core.Path.{_≡_, refl, sym, ap, _∙_}
-use mathlib.Core.Logic.{_⊎_, inl, inr, ⊎-elim, _≢_}
+use mathlib.Core.Logic.{_⊎_, inl, inr, ⊎-elim}
 use mathlib.Core.Bool.{true, false, false≢true}
 use mathlib.Core.List.{List, _∷_, List·Memᴰ, List·Memᴰ·head, List·Memᴰ·tail, List·Memᴰ·not-nil, List·Memᴰ·cases-cons}
-use Rattle.bits.specs.Bits.{bit}
 use Rattle.bits.proofs.Booleans.{false-elim}
-use Rattle.bits.proofs.BitLaws.{bit-zero}
 use Rattle.policy.specs.declared.Tables.{Tables}
 use Rattle.policy.specs.Tables.{noFirm, noPerson, noFolder, noRole, emptyTables, enables}
 use Rattle.policy.specs.Rulebook.{
@@ -27,7 +25,19 @@ use Rattle.policy.specs.Agreement.{Holds}
 use Rattle.policy.proofs.Declaring.{isRules, Declares, no-record, more-records, book-loads}
 use Rattle.policy.proofs.Sound.{blank-each, Sound, declare-sound, start-sound}
 use Rattle.policy.proofs.Loads.{AnyWidth, any-fits}
-use Rattle.policy.proofs.Parts.{Part, firmPart, personPart, folderPart, rolePart, pairPart, pair-cases}
+use Rattle.policy.proofs.Parts.{
+  Part,
+  firmPart,
+  personPart,
+  folderPart,
+  rolePart,
+  pairPart,
+  pair-after,
+  pair-blank,
+  left,
+  declared-left,
+  entry-of,
+}
 
 -- ---- an entry of a part, after all records
 
@@ -37,9 +47,7 @@ module _ (part : Part) where
       → part .entry t′ i ≡ part .entry t i
   kept no-record i h = refl
   kept (more-records {t = t} {r = r} p n d) i h =
-      let same : part .entry (declare t r) i ≡ part .entry t i =
-      part .left t r i (λ v e. false-elim _ (part .fresh t i v (rw e at p)) h) in
-      kept d i (rw same h) ∙ same
+      let same = declared-left part t r i p h in kept d i (rw same h) ∙ same
 
   -- an entry that a record gives
   declared-entry : {t t′ : Tables} {rs : List Record} → Declares t rs t′ → Sound AnyWidth t
@@ -48,8 +56,7 @@ module _ (part : Part) where
   declared-entry (more-records {t = t} {r = r} p n d) s i v m =
       ⊎-elim
       (λ (e : part .records i v ≡ r).
-      let here : part .entry (declare t r) i ≡ part .value v = rw (← e) (part .given t i v s (rw e p)) in
-      kept d i (rw here (part .marked v)) ∙ here)
+      let here = entry-of part t r i v e s p in kept d i (rw here (part .marked v)) ∙ here)
       (λ later. declared-entry d (declare-sound AnyWidth t r s p (any-fits r)) i v later)
       (List·Memᴰ·cases-cons m)
 
@@ -58,7 +65,7 @@ module _ (part : Part) where
       → (i : part .Index) → ((v : part .Value) → List·Memᴰ (part .records i v) rs → ⊥) → part .entry t′ i ≡ part .entry t i
   undeclared-entry no-record i h = refl
   undeclared-entry (more-records {t = t} {r = r} p n d) i h =
-      undeclared-entry d i (λ v m. h v (List·Memᴰ·tail m)) ∙ part .left t r i (λ v e. h v (List·Memᴰ·head (sym e)))
+      undeclared-entry d i (λ v m. h v (List·Memᴰ·tail m)) ∙ left part t r i (λ v e. h v (List·Memᴰ·head (sym e)))
 
 -- ---- the rules in force
 
@@ -88,7 +95,7 @@ pair-source : {t t′ : Tables} {rs : List Record} → Declares t rs t′ → (p
     → (enables t p q ≡ true) ⊎ (List·Memᴰ (pair p q) rs)
 pair-source no-record p q h = inl h
 pair-source (more-records {t = t} {r = r} a b d) p q h =
-    ⊎-elim (λ e. ⊎-elim (λ same. inr (List·Memᴰ·head (sym same))) (λ before. inl before) (pair-cases t r p q e))
+    ⊎-elim (λ e. ⊎-elim (λ here. inr (List·Memᴰ·head (sym here))) (λ same. inl (sym same ∙ e)) (pair-after t r p q))
     (λ m. inr (List·Memᴰ·tail m)) (pair-source d p q h)
 
 -- ---- all records: the record of the rules, and those after it
@@ -128,7 +135,7 @@ module _ (t : Tables) (m : ℕ) (low : m ≤ 15) (rs : List Record) (d : Declare
         pairs = λ p q. (
           entry-given pairPart (p, q) tt refl,
           λ h.
-              ⊎-elim (λ e. absurd (false-elim _ (blank-each (λ (x : ℕ). bit x q ≡ false) 0 16 (bit-zero q) p) e))
+              ⊎-elim (λ e. absurd (false-elim _ (pair-blank p q) e))
               (λ later. List·Memᴰ·tail later) (pair-source d p q h),
         );
       }

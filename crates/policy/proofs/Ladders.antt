@@ -9,6 +9,7 @@ use mathlib.Core.List.{
   [],
   _∷_,
   _++_,
+  append-assoc,
   map,
   List·Memᴰ,
   List·Memᴰ·head,
@@ -21,7 +22,20 @@ use lib.Dec.{eqb}
 use borrow.Author.Tests.{eqb-true, eqb-false, not-true}
 use Rattle.bits.proofs.Booleans.{and-left, and-right, or-cases, decide}
 use Rattle.policy.specs.Checks.{Check, ladder}
-use Rattle.policy.specs.Demands.{AllPermit, FirstRefusal}
+
+-- every check of the list permits
+abbrev pub AllPermit : List Check → Type 0
+AllPermit checks = (c : Check) → List·Memᴰ c checks → c .permits ≡ true
+
+-- n is the number of the first check that does not permit
+pub record FirstRefusal (checks : List Check) (n : ℕ) : Type 0 where
+  pub before : List Check
+  pub after : List Check
+  pub check : Check
+  pub split : checks ≡ before ++ check ∷ after
+  pub permitted : AllPermit before
+  pub refuses : check .permits ≡ false
+  pub number : check .number ≡ n
 
 -- ---- one check and the rest
 
@@ -105,6 +119,19 @@ pub first-ladder : (cs : List Check) (n : ℕ) → FirstRefusal cs n → ladder 
 first-ladder cs n f =
     ap ladder (f .split) ∙ ladder-after (f .before) (f .check ∷ f .after) (f .permitted)
     ∙ ladder-refuses (f .check) (f .after) (f .refuses) ∙ f .number
+
+-- other checks behind those that refuse do not count
+pub refusal-front : {cs : List Check} {n : ℕ} (ds : List Check) → FirstRefusal cs n → FirstRefusal (cs ++ ds) n
+refusal-front ds f =
+    record {
+      before = f .before;
+      after = f .after ++ ds;
+      check = f .check;
+      split = ap (λ (l : List Check). l ++ ds) (f .split) ∙ append-assoc (f .before) (f .check ∷ f .after) ds;
+      permitted = f .permitted;
+      refuses = f .refuses;
+      number = f .number;
+    }
 
 -- ---- in either case one of these numbers
 

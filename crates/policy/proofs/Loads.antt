@@ -1,19 +1,14 @@
 -- The tables of a book that loads pass the test for such tables, name only steps below 16, and have no circle. They are sound because
 -- every record of the book passed its checks, and the checks of the end exclude circles and loose steps.
-use Prim.Native.Nat.{ℕ, _≤_, _<_}
-use mathlib.Core.Path.{_≡_, ap, _∙_}
-use mathlib.Core.Logic.{_⊎_, ⊎-elim}
+use Prim.Native.Nat.{ℕ, _<_}
+use mathlib.Core.Path.{_≡_, ap}
 use mathlib.Core.Bool.{true, false, not}
 use mathlib.Core.List.{List, List·Memᴰ, List·Memᴰ·tail}
-use lib.Dec.{ltb}
-use lib.ListN.{List·getD-eq-default}
-use borrow.Author.Tests.{le-leb, ltb-true, ltb-false}
-use Rattle.bits.specs.Bits.{bit}
-use Rattle.bits.proofs.Booleans.{and-both, decide, false-elim}
+use borrow.Author.Tests.{le-leb}
+use Rattle.bits.proofs.Booleans.{and-both}
 use Rattle.bits.proofs.Bounds.{all-of}
-use Rattle.bits.proofs.BitLaws.{bit-zero, bit-below}
 use Rattle.policy.specs.declared.Tables.{Tables}
-use Rattle.policy.specs.Tables.{firmAt, personAt, folderAt, roleAt, enabledBy, enables}
+use Rattle.policy.specs.Tables.{firmAt, personAt, folderAt, roleAt, enables}
 use Rattle.policy.specs.Rulebook.{
   Record,
   end,
@@ -33,6 +28,7 @@ use Rattle.policy.specs.Rulebook.{
   roleGiven,
   given,
 }
+use Rattle.policy.proofs.Circles.{sets-below}
 use Rattle.policy.proofs.Declaring.{book-loads, finishes-circle, finishes-loose}
 use Rattle.policy.proofs.Sound.{Sound, Fits, start-sound, declares-sound}
 
@@ -56,18 +52,8 @@ module _ (Width : ℕ → ℕ → Type 0) (t : Tables) (s : Sound Width t) where
       (ap not c))
       (ap not l)
 
-  -- a set that is not empty is the set of a step below 16
   pub sound-sets : (p q : ℕ) → enables t p q ≡ true → (p < 16) × (q < 16)
-  unfolding enables
-  sound-sets p q h = (
-    ⊎-elim (λ l. ltb-true p 16 l)
-        (λ l. absurd (false-elim (bit (enabledBy t p) q) (beyond (ltb-false p 16 l)) h))
-        (decide (ltb p 16)),
-    bit-below 16 (enabledBy t p) q (s .steps .each p .1) h,
-  )
-    where
-      beyond : 16 ≤ p → bit (enabledBy t p) q ≡ false
-      beyond l = ap (λ (x : ℕ). bit x q) (List·getD-eq-default (t .steps) 0 {n = p} (rw (s .steps .size) l)) ∙ bit-zero q
+  sound-sets = sets-below t (s .steps .size) (λ p. s .steps .each p .1)
 
 -- ---- the tables of a book
 

@@ -3,7 +3,7 @@
 use Prim.Native.Nat.{ℕ, zero, suc, _+_, _≤_}
 use native.Mathlib.Omega.{arith}
 use mathlib.Core.Path.{_≡_, refl, _∙_}
-use mathlib.Core.Logic.{_⊎_, inl, inr, ⊎-elim, _≢_}
+use mathlib.Core.Logic.{_⊎_, inl, inr, ⊎-elim, _↔_, _≢_}
 use mathlib.Core.Bool.{true}
 use mathlib.Core.List.{List, [], _∷_, List·Memᴰ, List·Memᴰ·head, Memᴰ·append-right}
 use lib.Dec.{eqb}
@@ -25,19 +25,29 @@ use Rattle.policy.specs.Rulebook.{
   loadFrom,
   loadBook,
 }
-use Rattle.policy.specs.Demands.{
-  AllPermit,
-  FirstRefusal,
-  Outcome,
-  no-byte,
-  refused,
-  next,
-  end-refused,
-  loaded,
-  Loading,
-}
-use Rattle.policy.proofs.Ladders.{numbered, ladder-zero, zero-ladder, ladder-first, first-ladder}
+use Rattle.policy.proofs.Ladders.{AllPermit, FirstRefusal, numbered, ladder-zero, zero-ladder, ladder-first, first-ladder}
 use Rattle.policy.proofs.PublishedNumbers.{record-numbered, end-numbered}
+
+-- loading, one record after another: what a book comes to by the first check that it fails, or by none
+pub data Outcome : ℕ → List ℕ → Tables → Loaded → Type 0 where
+  no-byte : {at : ℕ} {t : Tables} → Outcome at [] t (refusedBook 1 at)
+  refused :
+      {at kind n : ℕ} {body : List ℕ} {t : Tables} → FirstRefusal (recordChecks at t kind body) n
+      → Outcome at (kind ∷ body) t (refusedBook n at)
+  next :
+      {at kind : ℕ} {body : List ℕ} {t : Tables} {l : Loaded} → AllPermit (recordChecks at t kind body) → kind ≢ 0
+      → Outcome (at + 1 + bodyLength kind) (drop (bodyLength kind) body) (declare t (recordOf kind body)) l
+      → Outcome at (kind ∷ body) t l
+  end-refused :
+      {at n : ℕ} {body : List ℕ} {t : Tables} → AllPermit (recordChecks at t 0 body) → FirstRefusal (endChecks t) n
+      → Outcome at (0 ∷ body) t (refusedBook n at)
+  loaded :
+      {at : ℕ} {body : List ℕ} {t : Tables} → AllPermit (recordChecks at t 0 body) → AllPermit (endChecks t)
+      → Outcome at (0 ∷ body) t (record { number = 0; offset = at; tables = t })
+
+-- a book is refused exactly with the number of the first check that it fails, and loads where it fails none
+abbrev pub Loading : Type 0
+Loading = (book : List ℕ) (l : Loaded) → (loadBook book ≡ l) ↔ Outcome 0 book emptyTables l
 
 -- ---- a list of checks permits throughout, or has a first refusal, whose number is not 0
 

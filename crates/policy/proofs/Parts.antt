@@ -2,21 +2,22 @@
 -- was not declared before, and leaves every other entry as it was; by the laws of arrays and of bits.
 use Prim.Native.Nat.{ℕ, _<_}
 use native.Mathlib.Omega.{arith}
-use mathlib.Core.Path.{_≡_, refl, sym, ap, _∙_}
+use mathlib.Core.Path.{_≡_, refl, ap, _∙_}
 use mathlib.Core.Logic.{_⊎_, inl, inr, ⊎-elim, _≢_}
 use mathlib.Core.Bool.{Bool, true, false, _&&_, false≢true}
 use lib.Dec.{eqb, leb, ltb}
 use lib.Seq.{getD-set-same, getD-set-other}
 use borrow.Author.Tests.{leb-true, lt-ltb, ne-eqb, eqb-true, eqb-false, eq-eqb}
 use Rattle.bits.specs.Bits.{bit, withBit}
-use Rattle.bits.proofs.Booleans.{and-left, and-right, and-both, or-left, decide, false-elim}
-use Rattle.bits.proofs.BitLaws.{bit-with}
+use Rattle.bits.proofs.Booleans.{and-left, or-left, decide, false-elim}
+use Rattle.bits.proofs.BitLaws.{bit-zero, bit-with}
 use Rattle.policy.specs.declared.Firm.{Firm}
 use Rattle.policy.specs.declared.Person.{Person}
 use Rattle.policy.specs.declared.Folder.{Folder}
 use Rattle.policy.specs.declared.Role.{Role}
 use Rattle.policy.specs.declared.Tables.{Tables}
 use Rattle.policy.specs.Tables.{
+  emptyTables,
   noFirm,
   noPerson,
   noFolder,
@@ -46,7 +47,7 @@ use Rattle.policy.specs.Rulebook.{
   declare,
 }
 use Rattle.policy.proofs.Declaring.{Passes}
-use Rattle.policy.proofs.Sound.{set-keeps, Sound}
+use Rattle.policy.proofs.Sound.{set-keeps, blank-each, Sound}
 use Rattle.policy.proofs.Loads.{AnyWidth}
 
 -- ---- a part of the tables: the entries that the records of one kind give
@@ -64,84 +65,80 @@ pub record Part : Type 1 where
   pub given :
       (t : Tables) (i : Index) (v : Value) → Sound AnyWidth t → Passes t (records i v)
       → entry (declare t (records i v)) i ≡ value v
-  pub left : (t : Tables) (r : Record) (i : Index) → ((v : Value) → r ≡ records i v → ⊥) → entry (declare t r) i ≡ entry t i
+  pub after : (t : Tables) (r : Record) (i : Index) → ((v : Value) × (r ≡ records i v)) ⊎ (entry (declare t r) i ≡ entry t i)
+  pub blank : (i : Index) → isDeclared (entry emptyTables i) ≡ false
 
--- ---- a record leaves the entries that it does not give
+-- ---- a record gives an entry, or leaves it as it was
 
-pub firm-left : (t : Tables) (r : Record) (i : ℕ) → ((class : ℕ) → r ≡ firm i class → ⊥) → firmAt (declare t r) i ≡ firmAt t i
-unfolding declare
-firm-left t end i h = refl
-firm-left t (rules m) i h = refl
-firm-left t (firm f class) i h = getD-set-other (t .firms) f i _ noFirm (λ e. h class (rw e))
-firm-left t (person s level) i h = refl
-firm-left t (folder o f kind level) i h = refl
-firm-left t (role k rights) i h = refl
-firm-left t (pair p q) i h = refl
+same-or-other : (i k : ℕ) → (i ≡ k) ⊎ (i ≢ k)
+same-or-other i k = ⊎-elim (λ e. inl (eqb-true i k e)) (λ e. inr (eqb-false i k e)) (decide (eqb i k))
 
-pub person-left : (t : Tables) (r : Record) (i : ℕ) → ((level : ℕ) → r ≡ person i level → ⊥) → personAt (declare t r) i ≡ personAt t i
-unfolding declare
-person-left t end i h = refl
-person-left t (rules m) i h = refl
-person-left t (firm f class) i h = refl
-person-left t (person s level) i h = getD-set-other (t .persons) s i _ noPerson (λ e. h level (rw e))
-person-left t (folder o f kind level) i h = refl
-person-left t (role k rights) i h = refl
-person-left t (pair p q) i h = refl
+module _ (t : Tables) where
+  pub firm-after : (r : Record) (i : ℕ) → ((class : ℕ) × (r ≡ firm i class)) ⊎ (firmAt (declare t r) i ≡ firmAt t i)
+  unfolding declare
+  firm-after end i = inr refl
+  firm-after (rules m) i = inr refl
+  firm-after (firm f class) i =
+      ⊎-elim (λ e. inl (class, rw e)) (λ d. inr (getD-set-other (t .firms) f i _ noFirm d)) (same-or-other i f)
+  firm-after (person s level) i = inr refl
+  firm-after (folder o f kind level) i = inr refl
+  firm-after (role k rights) i = inr refl
+  firm-after (pair p q) i = inr refl
 
-pub folder-left : (t : Tables) (r : Record) (i : ℕ) → ((f kind level : ℕ) → r ≡ folder i f kind level → ⊥)
-    → folderAt (declare t r) i ≡ folderAt t i
-unfolding declare
-folder-left t end i h = refl
-folder-left t (rules m) i h = refl
-folder-left t (firm f class) i h = refl
-folder-left t (person s level) i h = refl
-folder-left t (folder o f kind level) i h = getD-set-other (t .folders) o i _ noFolder (λ e. h f kind level (rw e))
-folder-left t (role k rights) i h = refl
-folder-left t (pair p q) i h = refl
+  pub person-after : (r : Record) (i : ℕ) → ((level : ℕ) × (r ≡ person i level)) ⊎ (personAt (declare t r) i ≡ personAt t i)
+  unfolding declare
+  person-after end i = inr refl
+  person-after (rules m) i = inr refl
+  person-after (firm f class) i = inr refl
+  person-after (person s level) i =
+      ⊎-elim (λ e. inl (level, rw e)) (λ d. inr (getD-set-other (t .persons) s i _ noPerson d)) (same-or-other i s)
+  person-after (folder o f kind level) i = inr refl
+  person-after (role k rights) i = inr refl
+  person-after (pair p q) i = inr refl
 
-pub role-left : (t : Tables) (r : Record) (i : ℕ) → ((rights : ℕ) → r ≡ role i rights → ⊥) → roleAt (declare t r) i ≡ roleAt t i
-unfolding declare
-role-left t end i h = refl
-role-left t (rules m) i h = refl
-role-left t (firm f class) i h = refl
-role-left t (person s level) i h = refl
-role-left t (folder o f kind level) i h = refl
-role-left t (role k rights) i h = getD-set-other (t .roles) k i _ noRole (λ e. h rights (rw e))
-role-left t (pair p q) i h = refl
+  pub folder-after : (r : Record) (i : ℕ)
+      → ((v : ℕ × ℕ × ℕ) × (r ≡ folder i (v .0) (v .1) (v .2))) ⊎ (folderAt (declare t r) i ≡ folderAt t i)
+  unfolding declare
+  folder-after end i = inr refl
+  folder-after (rules m) i = inr refl
+  folder-after (firm f class) i = inr refl
+  folder-after (person s level) i = inr refl
+  folder-after (folder o f kind level) i =
+      ⊎-elim (λ e. inl ((f, kind, level), rw e)) (λ d. inr (getD-set-other (t .folders) o i _ noFolder d)) (same-or-other i o)
+  folder-after (role k rights) i = inr refl
+  folder-after (pair p q) i = inr refl
 
--- a pair changes one set, and puts one member into it
-pub pair-left : (t : Tables) (r : Record) (p q : ℕ) → (r ≡ pair p q → ⊥) → enables (declare t r) p q ≡ enables t p q
-unfolding declare enables
-pair-left t end p q h = refl
-pair-left t (rules m) p q h = refl
-pair-left t (firm f class) p q h = refl
-pair-left t (person s level) p q h = refl
-pair-left t (folder o f kind level) p q h = refl
-pair-left t (role k rights) p q h = refl
-pair-left t (pair a b) p q h =
-    ⊎-elim
-    (λ same.
-    let e : p ≡ a = eqb-true p a same in
-    let new : bit (withBit (enabledBy t a) b) q ≡ bit (enabledBy t p) q =
-    bit-with (enabledBy t a) b q ∙ rw (ne-eqb q b (λ f. h (cc)), e) in
-    set-keeps (λ (x : ℕ). bit x q ≡ bit (enabledBy t p) q) 0 (t .steps) a (withBit (enabledBy t a) b) new p refl)
-    (λ other. ap (λ (x : ℕ). bit x q) (getD-set-other (t .steps) a p _ 0 (eqb-false p a other)))
-    (decide (eqb p a))
+  pub role-after : (r : Record) (i : ℕ) → ((rights : ℕ) × (r ≡ role i rights)) ⊎ (roleAt (declare t r) i ≡ roleAt t i)
+  unfolding declare
+  role-after end i = inr refl
+  role-after (rules m) i = inr refl
+  role-after (firm f class) i = inr refl
+  role-after (person s level) i = inr refl
+  role-after (folder o f kind level) i = inr refl
+  role-after (role k rights) i =
+      ⊎-elim (λ e. inl (rights, rw e)) (λ d. inr (getD-set-other (t .roles) k i _ noRole d)) (same-or-other i k)
+  role-after (pair p q) i = inr refl
 
-pub pair-cases : (t : Tables) (r : Record) (p q : ℕ) → enables (declare t r) p q ≡ true → (r ≡ pair p q) ⊎ (enables t p q ≡ true)
-unfolding declare enables
-pair-cases t end p q h = inr h
-pair-cases t (rules m) p q h = inr h
-pair-cases t (firm f class) p q h = inr h
-pair-cases t (person s level) p q h = inr h
-pair-cases t (folder o f kind level) p q h = inr h
-pair-cases t (role k rights) p q h = inr h
-pair-cases t (pair a b) p q h =
-    ⊎-elim (λ e. let f = eqb-true a p (and-left (eqb a p) _ e) in let g = eqb-true b q (and-right (eqb a p) _ e) in inl (cc))
-    (λ e.
-    let other : pair a b ≡ pair p q → ⊥ = λ f. false-elim _ e (and-both _ _ (eq-eqb a p (cc)) (eq-eqb b q (cc))) in
-    inr (sym (pair-left t (pair a b) p q other) ∙ h))
-    (decide (eqb a p && eqb b q))
+  -- a pair changes one set, and puts one member into it
+  other-member : (a b q : ℕ) → q ≢ b → bit (enabledBy (declare t (pair a b)) a) q ≡ bit (enabledBy t a) q
+  unfolding declare
+  other-member a b q d =
+      let new : bit (withBit (enabledBy t a) b) q ≡ bit (enabledBy t a) q = bit-with (enabledBy t a) b q ∙ rw (ne-eqb q b d) in
+      set-keeps (λ (x : ℕ). bit x q ≡ bit (enabledBy t a) q) 0 (t .steps) a (withBit (enabledBy t a) b) new a refl
+
+  pub pair-after : (r : Record) (p q : ℕ) → (r ≡ pair p q) ⊎ (enables (declare t r) p q ≡ enables t p q)
+  unfolding declare enables
+  pair-after end p q = inr refl
+  pair-after (rules m) p q = inr refl
+  pair-after (firm f class) p q = inr refl
+  pair-after (person s level) p q = inr refl
+  pair-after (folder o f kind level) p q = inr refl
+  pair-after (role k rights) p q = inr refl
+  pair-after (pair a b) p q =
+      ⊎-elim
+      (λ (e : p ≡ a). ⊎-elim (λ (f : q ≡ b). inl (rw (e, f))) (λ d. inr (rw e (other-member a b q d))) (same-or-other q b))
+      (λ d. inr (ap (λ (x : ℕ). bit x q) (getD-set-other (t .steps) a p _ 0 d)))
+      (same-or-other p a)
 
 -- ---- a record gives its entry, which was not declared before
 
@@ -218,6 +215,28 @@ module _ (t : Tables) where
       ap (λ (x : ℕ). bit x q) (getD-set-same (t .steps) p _ 0 (rw (s .steps .size) (pair-below p q h)))
       ∙ bit-with (enabledBy t p) q q ∙ or-left (eqb q q) _ (eq-eqb q q refl)
 
+-- ---- the empty tables declare nothing
+
+pub firm-blank : (i : ℕ) → firmAt emptyTables i .declared ≡ false
+unfolding emptyTables
+firm-blank = blank-each (λ f. f .declared ≡ false) noFirm 64 refl
+
+pub person-blank : (i : ℕ) → personAt emptyTables i .declared ≡ false
+unfolding emptyTables
+person-blank = blank-each (λ s. s .declared ≡ false) noPerson 64 refl
+
+pub folder-blank : (i : ℕ) → folderAt emptyTables i .declared ≡ false
+unfolding emptyTables
+folder-blank = blank-each (λ o. o .declared ≡ false) noFolder 128 refl
+
+pub role-blank : (i : ℕ) → roleAt emptyTables i .declared ≡ false
+unfolding emptyTables
+role-blank = blank-each (λ k. k .declared ≡ false) noRole 32 refl
+
+pub pair-blank : (p q : ℕ) → enables emptyTables p q ≡ false
+unfolding emptyTables enables
+pair-blank p q = blank-each (λ (x : ℕ). bit x q ≡ false) 0 16 (bit-zero q) p
+
 -- ---- the five parts
 
 abbrev pub firmPart : Part
@@ -233,7 +252,8 @@ firmPart =
       marked = λ v. refl;
       fresh = firm-fresh;
       given = firm-given;
-      left = firm-left;
+      after = firm-after;
+      blank = firm-blank;
     }
 
 abbrev pub personPart : Part
@@ -249,7 +269,8 @@ personPart =
       marked = λ v. refl;
       fresh = person-fresh;
       given = person-given;
-      left = person-left;
+      after = person-after;
+      blank = person-blank;
     }
 
 abbrev pub folderPart : Part
@@ -265,7 +286,8 @@ folderPart =
       marked = λ v. refl;
       fresh = λ t o v. folder-fresh t o (v .0) (v .1) (v .2);
       given = λ t o v. folder-given t o (v .0) (v .1) (v .2);
-      left = λ t r o h. folder-left t r o (λ f kind level. h (f, kind, level));
+      after = folder-after;
+      blank = folder-blank;
     }
 
 abbrev pub rolePart : Part
@@ -281,7 +303,8 @@ rolePart =
       marked = λ v. refl;
       fresh = role-fresh;
       given = role-given;
-      left = role-left;
+      after = role-after;
+      blank = role-blank;
     }
 
 abbrev pub pairPart : Part
@@ -297,5 +320,22 @@ pairPart =
       marked = λ v. refl;
       fresh = λ t i v. pair-fresh t (i .0) (i .1);
       given = λ t i v. pair-given t (i .0) (i .1);
-      left = λ t r i h. pair-left t r (i .0) (i .1) (h tt);
+      after = λ t r i. ⊎-elim (λ e. inl (tt, e)) (λ same. inr same) (pair-after t r (i .0) (i .1));
+      blank = λ i. pair-blank (i .0) (i .1);
     }
+
+-- ---- what a record leaves, and what it gives, in every part
+
+module _ (part : Part) (t : Tables) where
+  pub left : (r : Record) (i : part .Index) → ((v : part .Value) → r ≡ part .records i v → ⊥)
+      → part .entry (declare t r) i ≡ part .entry t i
+  left r i h = ⊎-elim (λ w. absurd (h (w .0) (w .1))) (λ same. same) (part .after t r i)
+
+  -- a record that passes its checks leaves a declared entry
+  pub declared-left : (r : Record) (i : part .Index) → Passes t r → part .isDeclared (part .entry t i) ≡ true
+      → part .entry (declare t r) i ≡ part .entry t i
+  declared-left r i p h = left r i (λ v e. false-elim _ (part .fresh t i v (rw e at p)) h)
+
+  pub entry-of : (r : Record) (i : part .Index) (v : part .Value) → part .records i v ≡ r → Sound AnyWidth t → Passes t r
+      → part .entry (declare t r) i ≡ part .value v
+  entry-of r i v e s p = rw (← e) (part .given t i v s (rw e p))

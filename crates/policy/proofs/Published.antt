@@ -26,7 +26,7 @@ use Rattle.bits.proofs.Booleans.{
 }
 use Rattle.bits.proofs.Bounds.{any-some, some-any, all-at, all-of}
 use Rattle.level.specs.Levels.{atMost, meetOf}
-use Rattle.level.proofs.LevelLaws.{split}
+use Rattle.level.proofs.LevelLaws.{atMost-refl, atMost-antisym, split}
 use Rattle.policy.specs.declared.Tables.{Tables}
 use Rattle.policy.specs.Tables.{personAt, folderAt, roleAt, enables, roleDeclared, classOf}
 use Rattle.policy.specs.Request.{Request, read, write, start, step, subject}
@@ -50,9 +50,12 @@ use Rattle.policy.specs.Rules.{
   pipeline,
 }
 use Rattle.policy.specs.Published.{
+  requester,
+  rightOf,
   Access,
   InHistory,
   Accessed,
+  IsCurrentLevel,
   WallAccess,
   Wall,
   LowWater,
@@ -74,6 +77,21 @@ use Rattle.policy.proofs.Accesses.{
   applied-done,
   applied-below,
 }
+
+-- the definitions' person and right of a request are the published ones
+pub subject-is : (r : Request) → subject r ≡ requester r
+unfolding subject
+subject-is (read s o) = refl
+subject-is (write s o) = refl
+subject-is (start s u) = refl
+subject-is (step s p o) = refl
+
+pub right-is : (t : Tables) (r : Request) → right t r ≡ rightOf t r
+unfolding right
+right-is t (read s o) = refl
+right-is t (write s o) = refl
+right-is t (start s u) = refl
+right-is t (step s p o) = refl
 
 module _ (t : Tables) (H : Request → Bool) where
   -- ---- the wall
@@ -103,7 +121,7 @@ module _ (t : Tables) (H : Request → Bool) where
       (λ o l. implies-intro (accessed t H s o) _ (λ a. ap not (ne-eqb (classOf t o) c (λ q. h o (accessed-some t H s o a) (sym q)))))
 
   wall-access : (s o : ℕ) → (wallAccess t H s o ≡ true) ↔ WallAccess t H s o
-  unfolding wallAccess
+  unfolding wallAccess classOf
   wall-access s o = (
     λ e.
         ⊎-elim (λ l. inl (opened-some s (folderAt t o .firm) l)) (λ l. inr (other-all s (classOf t o) l))
@@ -185,10 +203,7 @@ module _ (t : Tables) (H : Request → Bool) where
       go true d e = split 12 below (folderAt t n .level .0) c ∙ and-both _ _ e (h n (lt-suc-self n) d)
       go false d e = e
 
-  pub level-is-meet : (s c : ℕ)
-      → (atMost 12 c (currentLevel t H s) ≡ true)
-      ↔ ((atMost 12 c (personAt t s .level .0) ≡ true)
-      × ((o : ℕ) → InHistory t H (read s o) → atMost 12 c (folderAt t o .level .0) ≡ true))
+  pub level-is-meet : (s : ℕ) → IsCurrentLevel t H s (currentLevel t H s)
   unfolding currentLevel
   level-is-meet s c = (
     λ e.
@@ -200,11 +215,22 @@ module _ (t : Tables) (H : Request → Bool) where
     λ w. below-level s c 128 (w .0) (λ o l d. w .1 o (did-in t H (read s o) d)),
   )
 
+  -- a person has one current level
+  pub one-level : (s a b : ℕ) → IsCurrentLevel t H s a → IsCurrentLevel t H s b → a ≡ b
+  one-level s a b p q =
+      atMost-antisym 12 a b (q a .1 (p a .0 (atMost-refl 12 a))) (p b .1 (q b .0 (atMost-refl 12 b)))
+
+  start-levels : (s u : ℕ) → (atMost 12 (currentLevel t H u) (currentLevel t H s) ≡ true) ↔ LowWater t H (start s u)
+  start-levels s u = (
+    λ e a b p q. rw (one-level u a _ p (level-is-meet u), one-level s b _ q (level-is-meet s)) e,
+    λ w. w _ _ (level-is-meet u) (level-is-meet s),
+  )
+
   pub low-water-published : (r : Request) → (lowWater t (currentLevel t H) r ≡ true) ↔ LowWater t H r
   unfolding lowWater
   low-water-published (read s o) = (λ e. tt, λ w. refl)
   low-water-published (write s o) = level-is-meet s (folderAt t o .level .0)
-  low-water-published (start s u) = (λ e. e, λ w. w)
+  low-water-published (start s u) = start-levels s u
   low-water-published (step s p o) = (λ e. tt, λ w. refl)
 
   -- ---- roles
@@ -236,15 +262,27 @@ module _ (t : Tables) (H : Request → Bool) where
       let i = did-in t H q (and-left (did t H q) _ w) in
       false-elim (bit (roleAt t k .rights) (right t q)) (not-true _ (and-right (did t H q) _ w)) (h q (inr (i, s))))))
 
+  -- a request of the same person, by the definitions or as published
+  alike : (q r : Request) → (q ≡ r) ⊎ (InHistory t H q × (requester q ≡ requester r))
+      → (q ≡ r) ⊎ (InHistory t H q × (subject q ≡ subject r))
+  alike q r (inl e) = inl e
+  alike q r (inr w) = inr (w .0, subject-is q ∙ w .1 ∙ sym (subject-is r))
+
+  alike-back : (q r : Request) → (q ≡ r) ⊎ (InHistory t H q × (subject q ≡ subject r))
+      → (q ≡ r) ⊎ (InHistory t H q × (requester q ≡ requester r))
+  alike-back q r (inl e) = inl e
+  alike-back q r (inr w) = inr (w .0, sym (subject-is q) ∙ w .1 ∙ subject-is r)
+
   pub roles-published : (r : Request) → (roles t H r ≡ true) ↔ Roles t H r
   unfolding roles
   roles-published r = (
     λ e.
         let (k, l, w) = any-some 32 (λ k. roleDeclared t k && roleCovers t H r k) e in
-        (k, and-left (roleDeclared t k) _ w, covers-all r k (and-right (roleDeclared t k) _ w)),
+        let all = covers-all r k (and-right (roleDeclared t k) _ w) in
+        (k, and-left (roleDeclared t k) _ w, λ q h. rw right-is at (all q (alike q r h))),
     λ w.
         some-any 32 (λ k. roleDeclared t k && roleCovers t H r k) (w .0) (role-below t (w .0) (w .1))
-        (and-both _ _ (w .1) (all-covers r (w .0) (w .2))),
+        (and-both _ _ (w .1) (all-covers r (w .0) (λ q h. rw right-is (w .2 q (alike-back q r h))))),
   )
 
   -- ---- the pipeline

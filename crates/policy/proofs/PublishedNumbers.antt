@@ -1,14 +1,17 @@
 -- Every call's number is a published one, because each is the number of an ordered list of checks, whose numbers are written in it; and a
 -- book comes to a refusal with a published number, or to tables with the number 0.
 use Prim.Native.Nat.{ℕ, zero, suc, _+_}
-use mathlib.Core.Path.{_≡_, refl}
+use mathlib.Core.Path.{_≡_, refl, sym}
 use mathlib.Core.Bool.{true}
-use mathlib.Core.List.{List, [], _∷_, _++_, List·Memᴰ, List·Memᴰ·head, List·Memᴰ·tail}
+use mathlib.Core.List.{List, [], _∷_, _++_, List·Memᴰ, List·Memᴰ·head, List·Memᴰ·tail, Memᴰ·cast}
 use mathlib.Core.Option.{Option, none, some}
 use lib.Dec.{eqb}
+use borrow.Author.Tests.{eqb-true}
 use lib.ListN.{length, drop}
 use Rattle.policy.specs.declared.Tables.{Tables}
 use Rattle.policy.specs.declared.Loaded.{Loaded}
+use Rattle.policy.specs.declared.Ran.{Ran}
+use Rattle.policy.specs.declared.Standing.{Standing}
 use Rattle.policy.specs.Checks.{ladder}
 use Rattle.policy.specs.Rulebook.{
   bodyLength,
@@ -28,7 +31,9 @@ use Rattle.policy.specs.Calls.{
   callChecks,
   judgeNumber,
   runNumber,
+  ran,
   standingNumber,
+  standing,
 }
 use Rattle.policy.specs.Demands.{Numbers}
 use Rattle.bits.proofs.Booleans.{by-test}
@@ -74,6 +79,19 @@ unfolding callChecks requestChecks
 judge-number t h none = all-stand-in _ _ _ refl (ladder-member (callChecks t h ++ requestChecks t (setOf h) none))
 judge-number t h (some r) = all-stand-in _ _ _ refl (ladder-member (callChecks t h ++ requestChecks t (setOf h) (some r)))
 
+-- the number that a run, and a standing, has is the number of its checks
+pub ran-number : (t : Tables) (h requests answers : List ℕ) → ran t h requests answers .number ≡ runNumber t h requests answers
+unfolding ran
+ran-number t h requests answers =
+    by-test (λ (r : Ran). r .number ≡ runNumber t h requests answers) (eqb (runNumber t h requests answers) 0) _ _
+    (λ e. sym (eqb-true (runNumber t h requests answers) 0 e)) (λ e. refl)
+
+pub standing-number : (t : Tables) (h : List ℕ) (s : ℕ) → standing t h s .number ≡ standingNumber t h s
+unfolding standing
+standing-number t h s =
+    by-test (λ (r : Standing). r .number ≡ standingNumber t h s) (eqb (standingNumber t h s) 0) _ _
+    (λ e. sym (eqb-true (standingNumber t h s) 0 e)) (λ e. refl)
+
 pub numbers : Numbers
 unfolding blankNumber callChecks loadBook refusedBook judgeNumber runNumber standingNumber
 numbers =
@@ -82,6 +100,6 @@ numbers =
       load =
           λ book. load-cases (λ l. List·Memᴰ (l .number) bookNumbers) (λ n at i. i) (λ at t. List·Memᴰ·head refl) (length book) 0 book _;
       judge = λ t h bytes. judge-number t h (requestOf bytes);
-      run = λ t h requests answers. ladder-member _;
-      standing = λ t h s. ladder-member _;
+      run = λ t h requests answers. Memᴰ·cast (ran-number t h requests answers) (ladder-member _);
+      standing = λ t h s. Memᴰ·cast (standing-number t h s) (ladder-member _);
     }

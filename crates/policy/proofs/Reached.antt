@@ -27,7 +27,9 @@ use Rattle.policy.specs.Rulebook.{
   endChecks,
   loadBook,
 }
-use Rattle.policy.specs.Demands.{AllPermit, Outcome, next, loaded, Bytes}
+use Rattle.policy.specs.Given.{Bytes}
+use Rattle.policy.proofs.Ladders.{AllPermit}
+use Rattle.policy.proofs.Outcomes.{Outcome, next, loaded}
 use Rattle.policy.proofs.Ladders.{permit-none, permit-more}
 use Rattle.policy.proofs.Outcomes.{loading}
 use Rattle.policy.proofs.Declaring.{Passes}

@@ -30,9 +30,22 @@ use Rattle.policy.specs.Rulebook.{
   loadFrom,
   loadBook,
 }
-use Rattle.policy.specs.Calls.{restOf, recordedIf, judgeNumber, putHistory, runNumber, runHistory, runAnswers}
+use Rattle.policy.specs.Calls.{
+  blankNumber,
+  blankHistory,
+  restOf,
+  recordedIf,
+  judgeNumber,
+  putHistory,
+  runNumber,
+  ran,
+  runHistory,
+  runAnswers,
+  standingNumber,
+  standing,
+}
 use Rattle.policy.specs.Demands.{Refusals}
-use Rattle.policy.proofs.PublishedNumbers.{load-cases}
+use Rattle.policy.proofs.PublishedNumbers.{load-cases, ran-number, standing-number}
 
 -- the empty book loads, to its tables
 empty-book : loadBook (1 ∷ 0 ∷ 0 ∷ []) .tables ≡ emptyTables
@@ -52,13 +65,15 @@ unfolding putHistory recordedIf
 put-refused t h bytes n = rw (ne-eqb (judgeNumber t h bytes) 0 n)
 
 pub refusals : Refusals
-unfolding runHistory runAnswers restOf
+unfolding blankHistory ran runHistory runAnswers standing restOf
 refusals =
     record {
+      blank = λ h n. rw (ne-eqb (blankNumber h) 0 n);
       put = put-refused;
       run =
           λ t h requests answers n.
-          let e = ne-eqb (runNumber t h requests answers) 0 n in
-          (rw e, rw e);
+          let e = ne-eqb (runNumber t h requests answers) 0 (λ z. n (ran-number t h requests answers ∙ z)) in
+          (rw e, rw e, rw e, rw e);
+      standing = λ t h s n. let e = ne-eqb (standingNumber t h s) 0 (λ z. n (standing-number t h s ∙ z)) in (rw e, rw e, rw e);
       load = λ book n. (refused-tables book n ∙ sym empty-book, rw (ne-eqb (loadBook book .number) 0 n));
     }

@@ -26,27 +26,25 @@ use Rattle.policy.specs.Tables.{
   folderAt,
   roleAt,
   roleDeclared,
-  classOf,
   inForce,
   wallRule,
   lowWaterRule,
   rolesRule,
   pipelineRule,
 }
-use Rattle.policy.specs.Request.{Request, read, write, start, step, subject, requestOf, member}
-use Rattle.policy.specs.Rules.{declared, right, opened}
+use Rattle.policy.specs.Request.{Request, read, write, start, step, requestOf, member}
+use Rattle.policy.specs.Rules.{declared, opened}
 use Rattle.policy.specs.Calls.{judgeOver, judgeList}
-use Rattle.policy.specs.Published.{Access, Accessed, WallAccess, Roles}
+use Rattle.policy.specs.Published.{requester, rightOf, rivalsOf, Access, Accessed, WallAccess, Roles}
 use Rattle.policy.proofs.Requests.{member-none, member-head, member-tail, member-cases}
 use Rattle.policy.proofs.Published.{opened-some, some-opened, wall-published, roles-published}
 use Rattle.policy.proofs.Granted.{Passed, judge-passed, passed-judge, putOver, put-granted, grantedOver, judge-more}
 
 -- the folders' firms are one, or of different classes
 Compatible : Tables → ℕ → ℕ → Type 0
-Compatible t o o′ = (folderAt t o .firm ≡ folderAt t o′ .firm) ⊎ (classOf t o ≢ classOf t o′)
+Compatible t o o′ = (folderAt t o .firm ≡ folderAt t o′ .firm) ⊎ (rivalsOf t o ≢ rivalsOf t o′)
 
-class-of-firm : (t : Tables) (o o′ : ℕ) → folderAt t o .firm ≡ folderAt t o′ .firm → classOf t o ≡ classOf t o′
-unfolding classOf
+class-of-firm : (t : Tables) (o o′ : ℕ) → folderAt t o .firm ≡ folderAt t o′ .firm → rivalsOf t o ≡ rivalsOf t o′
 class-of-firm t o o′ e = ap (λ (f : ℕ). firmAt t f .class) e
 
 compatible-sym : (t : Tables) (o o′ : ℕ) → Compatible t o o′ → Compatible t o′ o
@@ -63,7 +61,7 @@ one-folder (step s n o) s′ a b p q = sym (p .1) ∙ q .1
 
 -- role k holds the rights of all requests of person s in the set
 Covers : Tables → (Request → Bool) → ℕ → ℕ → Type 0
-Covers t S s k = (q : Request) → S q ≡ true → subject q ≡ s → bit (roleAt t k .rights) (right t q) ≡ true
+Covers t S s k = (q : Request) → S q ≡ true → requester q ≡ s → bit (roleAt t k .rights) (rightOf t q) ≡ true
 
 -- what holds of a set that was granted one request after another
 record Fair (t : Tables) (S : Request → Bool) : Type 0 where
@@ -71,7 +69,7 @@ record Fair (t : Tables) (S : Request → Bool) : Type 0 where
   clean : inForce t wallRule ≡ true → (s o o′ : ℕ) → Accessed t S s o → Accessed t S s o′ → Compatible t o o′
   role :
       inForce t rolesRule ≡ true → (r : Request) → S r ≡ true
-      → (k : ℕ) × (roleDeclared t k ≡ true) × Covers t S (subject r) k
+      → (k : ℕ) × (roleDeclared t k ≡ true) × Covers t S (requester r) k
 
 fair-none : (t : Tables) → Fair t (member [])
 fair-none t =
@@ -114,12 +112,12 @@ module _ (t : Tables) (g : List Request) (r : Request) (fair : Fair t (member g)
       (access-cases s o a)
 
   more-role : inForce t rolesRule ≡ true → (q : Request) → member (r ∷ g) q ≡ true
-      → (k : ℕ) × (roleDeclared t k ≡ true) × Covers t (member (r ∷ g)) (subject q) k
+      → (k : ℕ) × (roleDeclared t k ≡ true) × Covers t (member (r ∷ g)) (requester q) k
   unfolding Covers
   more-role on q m =
       ⊎-elim
       (λ y.
-      let same-person = eqb-true (subject q) (subject r) y in
+      let same-person = eqb-true (requester q) (requester r) y in
       let (k, d, c) = roles-published t (member g) r .0 (implies-elim _ _ (p .covered) on) in (
         k,
         d,
@@ -127,15 +125,15 @@ module _ (t : Tables) (g : List Request) (r : Request) (fair : Fair t (member g)
             ⊎-elim (λ i. c q′ (inl i)) (λ h. c q′ (inr ((fair .known q′ h, h), e ∙ same-person))) (member-cases r q′ g m′),
       ))
       (λ n.
-      let other = eqb-false (subject q) (subject r) n in
-      let old = ⊎-elim (λ i. absurd (other (ap subject i))) (λ h. h) (member-cases r q g m) in
+      let other = eqb-false (requester q) (requester r) n in
+      let old = ⊎-elim (λ i. absurd (other (ap requester i))) (λ h. h) (member-cases r q g m) in
       let (k, d, c) = fair .role on q old in (
         k,
         d,
         λ q′ m′ e.
-            ⊎-elim (λ i. absurd (other (sym e ∙ ap subject i))) (λ h. c q′ h e) (member-cases r q′ g m′),
+            ⊎-elim (λ i. absurd (other (sym e ∙ ap requester i))) (λ h. c q′ h e) (member-cases r q′ g m′),
       ))
-      (decide (eqb (subject q) (subject r)))
+      (decide (eqb (requester q) (requester r)))
 
   fair-more : Fair t (member (r ∷ g))
   fair-more = record { known = more-known; clean = more-clean; role = more-role }

@@ -1,27 +1,20 @@
--- A run is one put after another. Its own number is 0 exactly where its three checks permit; its puts are one for each record, by
--- induction on the bytes left; and each answer written is counted once.
-use Prim.Native.Nat.{ℕ, zero, suc, _+_, _≤_, _<_}
-use native.Mathlib.Nat.{not-suc-le-zero}
+-- A run whose own number is 0 puts one record after another and writes each number in its place, so the zeros among the bytes written are
+-- the zeros among the numbers; each answer written is counted once.
+use Prim.Native.Nat.{ℕ, suc, _+_, _≤_, _<_}
 use native.Mathlib.Omega.{arith}
-use mathlib.Core.Path.{_≡_, refl, ap, _∙_}
-use mathlib.Core.Logic.{_↔_, ⊎-elim}
-use mathlib.Core.Bool.{true}
-use mathlib.Core.List.{List, [], _∷_}
-use mathlib.Core.Option.{Option, none, some}
+use mathlib.Core.Path.{_≡_, refl, sym, ap, _∙_}
+use mathlib.Core.Logic.{⊎-elim, _≢_}
+use mathlib.Core.Bool.{not}
+use mathlib.Core.List.{List, [], _∷_, _++_}
 use lib.Dec.{eqb}
-use lib.ListN.{length, drop, length-drop}
-use borrow.Author.Tests.{eqb-true, eq-eqb, leb-true, le-leb}
+use lib.ListN.{length, getD, drop, List·getD-append}
+use borrow.Author.Tests.{eqb-true, eqb-false, eq-eqb, ne-eqb, leb-true, not-true}
 use Rattle.bits.proofs.Booleans.{decide}
 use Rattle.policy.specs.declared.Tables.{Tables}
-use Rattle.policy.specs.Rulebook.{given}
-use Rattle.policy.specs.History.{historyBytes}
-use Rattle.policy.specs.Request.{Request, read, write, start, step, requestOf, recordLength}
 use Rattle.policy.specs.Calls.{
   callChecks,
   putHistory,
   putNumbers,
-  afterRecord,
-  callsFrom,
   callsOf,
   answersDue,
   grantedIn,
@@ -31,40 +24,12 @@ use Rattle.policy.specs.Calls.{
   runHistory,
   runAnswers,
 }
-use Rattle.policy.specs.Demands.{Turns, Runs}
-use Rattle.policy.proofs.Ladders.{permit-none, permit-more, permit-first, permit-rest, ladder-zero, zero-ladder}
-
--- ---- the puts of a run
-
-no-calls : (n : ℕ) → callsFrom n [] ≡ []
-unfolding callsFrom
-no-calls zero = refl
-no-calls (suc n) = refl
-
-record-some : (r : Request) → 0 < recordLength r
-unfolding recordLength
-record-some (read s o) = omega arith
-record-some (write s o) = omega arith
-record-some (start s u) = omega arith
-record-some (step s p o) = omega arith
-
-turns-from : (n : ℕ) (bytes : List ℕ) → length bytes ≤ n → Turns bytes (callsFrom n bytes)
-unfolding callsFrom afterRecord
-turns-from zero [] l = Turns.no-record
-turns-from zero (kind ∷ body) l = absurd (not-suc-le-zero l)
-turns-from (suc n) [] l = Turns.no-record
-turns-from (suc n) (kind ∷ body) l = go (requestOf (kind ∷ body)) refl (turns-from n)
-  where
-    go : (r : Option Request) → requestOf (kind ∷ body) ≡ r
-        → ((bytes : List ℕ) → length bytes ≤ n → Turns bytes (callsFrom n bytes))
-        → Turns (kind ∷ body) ((kind ∷ body) ∷ callsFrom n (afterRecord (requestOf (kind ∷ body)) (kind ∷ body)))
-    go none e later = rw (e, no-calls n) (Turns.last e)
-    go (some r) e later =
-        let shorter = length-drop (recordLength r) (kind ∷ body) in
-        let some-byte = record-some r in
-        rw e (Turns.turn e (later (drop (recordLength r) (kind ∷ body)) (omega arith)))
-
--- ---- the counts
+use Rattle.policy.specs.Counting.{NumberOf}
+use Rattle.policy.specs.Demands.{Running, Runs}
+use Rattle.policy.proofs.Ladders.{permit-first, permit-rest, ladder-zero}
+use Rattle.policy.proofs.PublishedNumbers.{ran-number}
+use Rattle.policy.proofs.Turned.{turns-of, turns-once}
+use Rattle.policy.proofs.Counts.{count-number, granted-places, refused-places}
 
 pub numbers-length : (t : Tables) (h : List ℕ) (calls : List (List ℕ)) → length (putNumbers t h calls) ≡ length calls
 unfolding putNumbers
@@ -78,34 +43,60 @@ counted-once (n ∷ numbers) =
     let rest = counted-once numbers in
     ⊎-elim (λ e. rw e (omega arith)) (λ e. rw e (omega arith)) (decide (eqb n 0))
 
--- ---- the number of a run
+-- there is room for the answers
+run-room : (t : Tables) (h requests answers : List ℕ) → runNumber t h requests answers ≡ 0 → answersDue requests ≤ length answers
+unfolding runNumber callChecks
+run-room t h requests answers e =
+    leb-true (answersDue requests) (length answers) (permit-first (permit-rest (permit-rest (ladder-zero _ refl e))))
 
-run-zero : (t : Tables) (h requests answers : List ℕ)
-    → (runNumber t h requests answers ≡ 0)
-    ↔ ((length h ≡ historyBytes) × (given t ≡ true) × (length (callsOf requests) ≤ length answers))
-unfolding runNumber callChecks answersDue
-run-zero t h requests answers = (
-  λ e.
-      let all = ladder-zero _ refl e in (
-        eqb-true (length h) historyBytes (permit-first all),
-        permit-first (permit-rest all),
-        leb-true (length (callsOf requests)) (length answers) (permit-first (permit-rest (permit-rest all))),
-      ),
-  λ w.
-      zero-ladder _
-      (permit-more (eq-eqb (length h) historyBytes (w .0))
-      (permit-more (w .1) (permit-more (le-leb (length (callsOf requests)) (length answers) (w .2)) permit-none))),
-)
+-- the answers of a run whose checks pass are counted once, and there is room for them
+pub counts-fit : (t : Tables) (h requests answers : List ℕ) → runNumber t h requests answers ≡ 0
+    → grantedIn (putNumbers t h (callsOf requests)) + refusedIn (putNumbers t h (callsOf requests)) ≤ length answers
+unfolding answersDue
+counts-fit t h requests answers e =
+    let room = run-room t h requests answers e in
+    let all = counted-once (putNumbers t h (callsOf requests)) in
+    let size = numbers-length t h (callsOf requests) in
+    omega arith
+
+-- the zeros among the first bytes of a list, and the others, where these bytes are the numbers
+module _ (numbers after : List ℕ) (count : ℕ) (all : length numbers ≡ count) where
+  same-byte : (k : ℕ) → k < count → getD (numbers ++ after) k 0 ≡ getD numbers k 0
+  same-byte k l = List·getD-append numbers after 0 k (rw all l)
+
+  zeros-counted : NumberOf (λ k. (k < count) × (getD (numbers ++ after) k 0 ≡ 0)) (grantedIn numbers)
+  zeros-counted =
+      rw (granted-places numbers, all)
+      (count-number count (λ k. eqb (getD numbers k 0) 0) _
+      (λ k w. (w .0, same-byte k (w .0) ∙ eqb-true _ 0 (w .1)))
+      (λ k w. (w .0, eq-eqb _ 0 (sym (same-byte k (w .0)) ∙ w .1))))
+
+  others-counted : NumberOf (λ k. (k < count) × (getD (numbers ++ after) k 0 ≢ 0)) (refusedIn numbers)
+  others-counted =
+      rw (refused-places numbers, all)
+      (count-number count (λ k. not (eqb (getD numbers k 0) 0)) _
+      (λ k w. (w .0, λ z. eqb-false _ 0 (not-true _ (w .1)) (sym (same-byte k (w .0)) ∙ z)))
+      (λ k w. (w .0, ap not (ne-eqb _ 0 (λ z. w .1 (same-byte k (w .0) ∙ z))))))
+
+module _ (t : Tables) (h requests answers : List ℕ) (z : ran t h requests answers .number ≡ 0) where
+  running : Running t h requests answers (callsOf requests)
+  unfolding answersDue runHistory runAnswers ran
+  running =
+      let e : runNumber t h requests answers ≡ 0 = sym (ran-number t h requests answers) ∙ z in
+      let numbers = putNumbers t h (callsOf requests) in
+      let all : length numbers ≡ length (callsOf requests) = numbers-length t h (callsOf requests) in
+      record {
+        history = rw e;
+        written = rw e;
+        granted = rw e (zeros-counted numbers (drop (length (callsOf requests)) answers) _ all);
+        refused = rw e (others-counted numbers (drop (length (callsOf requests)) answers) _ all);
+        together = rw e (counted-once numbers ∙ all);
+      }
 
 pub runs : Runs
-unfolding callsOf answersDue runHistory runAnswers ran
-runs t h requests answers =
+runs =
     record {
-      turns = turns-from (length requests) requests (omega arith);
-      zero = run-zero t h requests answers;
-      history = λ e. rw e;
-      written = λ e. rw e;
-      granted = λ e. rw e;
-      refused = λ e. rw e;
-      together = λ e. rw e (counted-once (putNumbers t h (callsOf requests)) ∙ numbers-length t h (callsOf requests));
+      turns = λ requests. (callsOf requests, turns-of requests);
+      once = λ requests calls calls′ w w′. turns-once w ∙ sym (turns-once w′);
+      runs = λ t h requests answers calls w z. rw (turns-once w) (running t h requests answers z);
     }

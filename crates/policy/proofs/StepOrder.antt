@@ -23,10 +23,11 @@ use Rattle.policy.specs.Tables.{enables, inForce, pipelineRule}
 use Rattle.policy.specs.Request.{Request, read, write, start, step, same, member}
 use Rattle.policy.specs.Rules.{declared}
 use Rattle.policy.specs.Published.{Applied, Pipeline}
+use Rattle.policy.specs.Ways.{Way, one, Enables}
 use Rattle.policy.specs.Agreement.{Done, stepsOn}
 use Rattle.policy.proofs.Requests.{member-none, member-head, member-tail, member-cases}
 use Rattle.policy.proofs.Published.{pipeline-published}
-use Rattle.policy.proofs.Circles.{Way, one, way-join}
+use Rattle.policy.proofs.Circles.{way-join}
 use Rattle.policy.proofs.Granted.{Passed, grantedOver, granted-keeps}
 
 -- ---- sorted lists
@@ -73,7 +74,7 @@ Chain t (x ∷ []) = x .number ≡ 0
 Chain t (x ∷ y ∷ l) = (enables t (y .number) (x .number) ≡ true) × Chain t (y ∷ l)
 
 abbrev Before : Tables → Done → Done → Type 0
-Before t x y = Way t (x .number) (y .number)
+Before t x y = Way (Enables t) (x .number) (y .number)
 
 chain-rest : (t : Tables) (x : Done) (l : List Done) → Chain t (x ∷ l) → Chain t l
 unfolding Chain
@@ -215,7 +216,7 @@ module _ (t : Tables) (on : inForce t pipelineRule ≡ true) where
   lined-after calls = granted-keeps t (Lined t) lined-more [] calls lined-none
 
   -- the same set was granted: the steps on each folder came in the same order, newest first
-  pub same-order : ((p : ℕ) → Way t p p → ⊥) → (xs ys : List (List ℕ))
+  pub same-order : ((p : ℕ) → Way (Enables t) p p → ⊥) → (xs ys : List (List ℕ))
       → ((r : Request) → member (grantedOver t [] xs) r ≡ member (grantedOver t [] ys) r)
       → (o : ℕ) → stepsOn o (grantedOver t [] xs) ≡ stepsOn o (grantedOver t [] ys)
   same-order no-circle xs ys h o =

@@ -4,7 +4,7 @@ use Prim.Native.Nat.{ℕ, zero, suc, _^_, _<_}
 use native.Mathlib.Nat.{pow-suc}
 use native.Mathlib.Omega.{arith}
 use mathlib.Core.Path.{_≡_, refl}
-use mathlib.Core.Logic.{_⊎_, ⊎-elim}
+use mathlib.Core.Logic.{⊎-elim}
 use mathlib.Core.Bool.{Bool, true, false, cond}
 use mathlib.Core.List.{
   List,
@@ -22,7 +22,7 @@ use lib.ListN.{length, getD, take, drop}
 use Rattle.policy.specs.declared.Tables.{Tables}
 use Rattle.policy.specs.Tables.{noPerson, noFolder, noRole}
 use Rattle.policy.specs.Rulebook.{Record, bodyLength, littleEndian, recordOf, loadBook, recordsFrom, recordsOf}
-use Rattle.policy.specs.Demands.{Bytes, OfType}
+use Rattle.policy.specs.Given.{Bytes, OfType}
 use Rattle.policy.proofs.Sound.{Sound, Fits}
 use Rattle.policy.proofs.Loads.{loaded-sound}
 use Rattle.policy.proofs.Writing.{Bits}

@@ -3,7 +3,7 @@
 use Prim.Native.Nat.{ℕ, zero, suc, _+_, _*_, _^_, _/_, _%_, _≤_, _<_}
 use native.Mathlib.Omega.{arith}
 use mathlib.Core.Path.{_≡_, refl, ap}
-use mathlib.Core.Logic.{_⊎_, ⊎-elim}
+use mathlib.Core.Logic.{⊎-elim}
 use mathlib.Core.Bool.{true, _&&_}
 use mathlib.Core.List.{List, [], _∷_, _++_, List·Memᴰ·not-nil, List·Memᴰ·cases-cons, List·Memᴰ·append-cases}
 use lib.Dec.{eqb, leb}
@@ -26,7 +26,8 @@ use Rattle.policy.specs.Rulebook.{
   inRange,
   recordChecks,
 }
-use Rattle.policy.specs.Demands.{AllPermit, Bytes}
+use Rattle.policy.specs.Given.{Bytes}
+use Rattle.policy.proofs.Ladders.{AllPermit}
 use Rattle.policy.proofs.Declaring.{Passes, passes-permitted}
 use Rattle.policy.proofs.Sound.{Fits}
 

@@ -6,21 +6,10 @@ use mathlib.Core.Logic.{_↔_}
 use mathlib.Core.Bool.{true, false, cond}
 use mathlib.Core.List.{List, [], _∷_, List·Memᴰ, Perm}
 use lib.Dec.{eqb}
+use lib.ListN.{getD}
+use Rattle.bits.specs.Bits.{bit}
 use Rattle.policy.specs.declared.Tables.{Tables}
-use Rattle.policy.specs.Tables.{
-  noFirm,
-  noPerson,
-  noFolder,
-  noRole,
-  firmAt,
-  personAt,
-  folderAt,
-  roleAt,
-  enables,
-  inForce,
-  lowWaterRule,
-  pipelineRule,
-}
+use Rattle.policy.specs.Tables.{noFirm, noPerson, noFolder, noRole, inForce, lowWaterRule, pipelineRule}
 use Rattle.policy.specs.Rulebook.{Record, rules, firm, person, folder, role, pair, loadBook, recordsOf}
 use Rattle.policy.specs.Request.{Request, read, write, start, step, requestOf}
 use Rattle.policy.specs.Calls.{blankNumber, blankHistory, addedIf, judgeList, putNumbers, putHistories}
@@ -28,20 +17,31 @@ use Rattle.policy.specs.Calls.{blankNumber, blankHistory, addedIf, judge
 -- the tables hold what the records declare, all of it and nothing else: what no record declares is zero and marked undeclared
 pub record Holds (t : Tables) (records : List Record) : Type 0 where
   pub mask : (m : ℕ) → (List·Memᴰ (rules m) records) ↔ (t .mask ≡ m)
-  pub firms : (f class : ℕ) → List·Memᴰ (firm f class) records → firmAt t f ≡ record { declared = true; class = class }
-  pub noFirms : (f : ℕ) → ((class : ℕ) → List·Memᴰ (firm f class) records → ⊥) → firmAt t f ≡ noFirm
+  pub firms :
+      (f class : ℕ) → List·Memᴰ (firm f class) records
+      → getD (t .firms) f noFirm ≡ record { declared = true; class = class }
+  pub noFirms :
+      (f : ℕ) → ((class : ℕ) → List·Memᴰ (firm f class) records → ⊥)
+      → getD (t .firms) f noFirm ≡ record { declared = false; class = 0 }
   pub persons :
       (s level : ℕ) → List·Memᴰ (person s level) records
-      → personAt t s ≡ record { declared = true; level = record { 0 = level } }
-  pub noPersons : (s : ℕ) → ((level : ℕ) → List·Memᴰ (person s level) records → ⊥) → personAt t s ≡ noPerson
+      → getD (t .persons) s noPerson ≡ record { declared = true; level = record { 0 = level } }
+  pub noPersons :
+      (s : ℕ) → ((level : ℕ) → List·Memᴰ (person s level) records → ⊥)
+      → getD (t .persons) s noPerson ≡ record { declared = false; level = record { 0 = 0 } }
   pub folders :
       (o f kind level : ℕ) → List·Memᴰ (folder o f kind level) records
-      → folderAt t o ≡ record { declared = true; firm = f; kind = kind; level = record { 0 = level } }
+      → getD (t .folders) o noFolder ≡ record { declared = true; firm = f; kind = kind; level = record { 0 = level } }
   pub noFolders :
-      (o : ℕ) → ((f kind level : ℕ) → List·Memᴰ (folder o f kind level) records → ⊥) → folderAt t o ≡ noFolder
-  pub roles : (k rights : ℕ) → List·Memᴰ (role k rights) records → roleAt t k ≡ record { declared = true; rights = rights }
-  pub noRoles : (k : ℕ) → ((rights : ℕ) → List·Memᴰ (role k rights) records → ⊥) → roleAt t k ≡ noRole
-  pub pairs : (p q : ℕ) → (List·Memᴰ (pair p q) records) ↔ (enables t p q ≡ true)
+      (o : ℕ) → ((f kind level : ℕ) → List·Memᴰ (folder o f kind level) records → ⊥)
+      → getD (t .folders) o noFolder ≡ record { declared = false; firm = 0; kind = 0; level = record { 0 = 0 } }
+  pub roles :
+      (k rights : ℕ) → List·Memᴰ (role k rights) records
+      → getD (t .roles) k noRole ≡ record { declared = true; rights = rights }
+  pub noRoles :
+      (k : ℕ) → ((rights : ℕ) → List·Memᴰ (role k rights) records → ⊥)
+      → getD (t .roles) k noRole ≡ record { declared = false; rights = 0 }
+  pub pairs : (p q : ℕ) → (List·Memᴰ (pair p q) records) ↔ (bit (getD (t .steps) p 0) q ≡ true)
 
 -- from blank: right after a blank that answered 0
 abbrev pub FromBlank : List ℕ → Type 0

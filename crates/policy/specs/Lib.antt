@@ -6,6 +6,11 @@ pub mod Request
 pub mod Rules
 pub mod Calls
 pub mod Published
-pub mod Marked
+pub mod Given
+pub mod Causes
+pub mod Ways
+pub mod Loading
+pub mod Counting
 pub mod Agreement
 pub mod Demands
+pub mod Marked

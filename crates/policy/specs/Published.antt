@@ -1,14 +1,14 @@
 -- The four rules as document 001 prints them (sections 4.1 to 4.4), with "there is" and "for all", as types.
-use Prim.Native.Nat.{ℕ}
+use Prim.Native.Nat.{ℕ, _+_}
 use mathlib.Core.Path.{_≡_}
-use mathlib.Core.Logic.{_⊎_, _≢_}
+use mathlib.Core.Logic.{_⊎_, _↔_, _≢_}
 use mathlib.Core.Bool.{Bool, true}
 use Rattle.bits.specs.Bits.{bit}
 use Rattle.level.specs.Levels.{atMost}
 use Rattle.policy.specs.declared.Tables.{Tables}
-use Rattle.policy.specs.Request.{Request, read, write, start, step, subject}
-use Rattle.policy.specs.Tables.{personAt, folderAt, roleAt, enables, roleDeclared, classOf}
-use Rattle.policy.specs.Rules.{declared, right, currentLevel}
+use Rattle.policy.specs.Request.{Request, read, write, start, step}
+use Rattle.policy.specs.Tables.{firmAt, personAt, folderAt, roleAt, enables, roleDeclared}
+use Rattle.policy.specs.Rules.{declared}
 
 -- ⟨s, o⟩: the request is an access of person s to folder o
 abbrev pub Access : Request → ℕ → ℕ → Type 0
@@ -16,6 +16,37 @@ Access (read s o) s′ o′ = (s ≡ s′) × (o ≡ o′)
 Access (write s o) s′ o′ = (s ≡ s′) × (o ≡ o′)
 Access (start s u) s′ o′ = ⊥
 Access (step s p o) s′ o′ = (s ≡ s′) × (o ≡ o′)
+
+-- the person whose request it is: of a start, the one who starts
+abbrev pub requester : Request → ℕ
+requester (read s o) = s
+requester (write s o) = s
+requester (start s u) = s
+requester (step s p o) = s
+
+-- a request's right: the folder's kind for read, 16 + kind for write, 32 for start, 48 + p for step
+abbrev pub rightOf : Tables → Request → ℕ
+rightOf t (read s o) = folderAt t o .kind
+rightOf t (write s o) = 16 + folderAt t o .kind
+rightOf t (start s u) = 32
+rightOf t (step s p o) = 48 + p
+
+-- the class of rivals of a folder's firm
+abbrev pub rivalsOf : Tables → ℕ → ℕ
+rivalsOf t o = firmAt t (folderAt t o .firm) .class
+
+-- rules in force: bit 0 of the mask wall, 1 low-water, 2 roles, 3 pipeline
+abbrev pub WallInForce : Tables → Type 0
+WallInForce t = bit (t .mask) 0 ≡ true
+
+abbrev pub LowWaterInForce : Tables → Type 0
+LowWaterInForce t = bit (t .mask) 1 ≡ true
+
+abbrev pub RolesInForce : Tables → Type 0
+RolesInForce t = bit (t .mask) 2 ≡ true
+
+abbrev pub PipelineInForce : Tables → Type 0
+PipelineInForce t = bit (t .mask) 3 ≡ true
 
 module _ (t : Tables) (H : Request → Bool) where
   -- r ∈ H, the shallow history: granted, and of declared persons and folders
@@ -31,26 +62,35 @@ module _ (t : Tables) (H : Request → Bool) where
   abbrev pub WallAccess : ℕ → ℕ → Type 0
   WallAccess s o =
       ((o′ : ℕ) × Accessed s o′ × (folderAt t o .firm ≡ folderAt t o′ .firm))
-      ⊎ ((o′ : ℕ) → Accessed s o′ → classOf t o ≢ classOf t o′)
+      ⊎ ((o′ : ℕ) → Accessed s o′ → rivalsOf t o ≢ rivalsOf t o′)
 
   abbrev pub Wall : Request → Type 0
   Wall r = (s o : ℕ) → Access r s o → WallAccess s o
 
+  -- the level is a person's current level, the meet of the first level and the levels of all folders that the person has read: what is
+  -- at most it is what is at most each of these
+  abbrev pub IsCurrentLevel : ℕ → ℕ → Type 0
+  IsCurrentLevel s level =
+      (c : ℕ)
+      → (atMost 12 c level ≡ true)
+      ↔ ((atMost 12 c (personAt t s .level .0) ≡ true)
+      × ((o : ℕ) → InHistory (read s o) → atMost 12 c (folderAt t o .level .0) ≡ true))
+
   -- 4.2, with the initial history: write is defined where l[o] ≤ l[o′] for all read(s, o′) ∈ H, and l[o] ≤ the first level of s;
-  -- read always. Start is document 01's: rule 3 with meets. Step passes.
+  -- read always. Start is document 01's: rule 3 with meets, l[u] ≤ l[s] of the current levels. Step passes.
   abbrev pub LowWater : Request → Type 0
   LowWater (read s o) = Unit {0}
   LowWater (write s o) =
       (atMost 12 (folderAt t o .level .0) (personAt t s .level .0) ≡ true)
       × ((o′ : ℕ) → InHistory (read s o′) → atMost 12 (folderAt t o .level .0) (folderAt t o′ .level .0) ≡ true)
-  LowWater (start s u) = atMost 12 (currentLevel t H u) (currentLevel t H s) ≡ true
+  LowWater (start s u) = (a b : ℕ) → IsCurrentLevel u a → IsCurrentLevel s b → atMost 12 a b ≡ true
   LowWater (step s p o) = Unit {0}
 
   -- 4.3: H ∪ {r} ⊆ C for some class C of permitted accesses; a role permits the requests of one person whose rights are in it
   abbrev pub Roles : Request → Type 0
   Roles r =
       (k : ℕ) × (roleDeclared t k ≡ true)
-      × ((q : Request) → (q ≡ r) ⊎ (InHistory q × (subject q ≡ subject r)) → bit (roleAt t k .rights) (right t q) ≡ true)
+      × ((q : Request) → (q ≡ r) ⊎ (InHistory q × (requester q ≡ requester r)) → bit (roleAt t k .rights) (rightOf t q) ≡ true)
 
   -- ⟨p, o⟩ ∈ H: step p was applied to folder o, by anyone
   abbrev pub Applied : ℕ → ℕ → Type 0

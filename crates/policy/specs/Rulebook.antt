@@ -144,7 +144,7 @@ hasCircle t = anyBelow 16 (λ p. reaches t 16 p p)
 unfoldable pub isLoose : Tables → ℕ → Bool
 isLoose t p = not (eqb p 0) && not (eqb (enabledBy t p) 0) && not (anyBelow 16 (λ r. enables t r p))
 
--- "a step enables but isn't enabled": some step does
+-- "a step enables but isn't enabled": some step is such a step
 unfoldable pub hasLoose : Tables → Bool
 hasLoose t = anyBelow 16 (isLoose t)
 
