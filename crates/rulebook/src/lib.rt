@@ -65,7 +65,7 @@ pub fn load(book: &[u8]) -> Loaded
             steps: t.steps[p],
         };
         let number = records::record_number(r, known);
-        if number != 0 {
+        if number != numbers::GRANTED {
             return refuse(number, at);
         }
         match kind {
@@ -87,7 +87,7 @@ pub fn rest(book: &[u8]) -> &[u8]
     ensures { λ r. ⌜ now r ≡ restOf (now (book .entry)) ⌝ }
 {
     let loaded = load(book);
-    if loaded.number != 0 {
+    if loaded.number != numbers::GRANTED {
         let end = book.len();
         return &book[end..];
     }

@@ -238,13 +238,13 @@ pub fn record_number(r: Reading, known: Known) -> u8
     ensures { λ n. ⌜ n ≡ numberOf r known ⌝ }
 {
     let number = r.number;
-    if number != 0 {
+    if number != numbers::GRANTED {
         return number;
     }
     let kind = r.kind;
     match kind {
-        0 => 0,
-        1 => 0,
+        0 => numbers::GRANTED,
+        1 => numbers::GRANTED,
         2 => declared_number(known.firm),
         3 => declared_number(known.person),
         4 => folder_number(known.folder, known.firm),
