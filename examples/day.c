@@ -1,5 +1,5 @@
-/* The marked day of document 01 (P1): loads the printed book, runs its ten requests from a blank history and prints the answers.
- * Exits with 1 if they are not the printed ones. */
+/* The marked day of document 01 (P1): loads the printed book, runs its ten requests from a blank history and prints the answers. Then
+ * a lobby with a public folder, and a book that is refused with 19. Exits with 1 if something else is answered than stands here. */
 #include "kweldabe.h"
 
 #include <stdio.h>
@@ -21,8 +21,29 @@ static const uint8_t requests[] = {
 
 static const uint8_t expected[] = {0, 14, 0, 15, 0, 17, 0, 0, 17, 13};
 
+/* Two rivals under the wall; folder 2, of the second one, is public. */
+static const uint8_t lobby[] = {
+    1, 1, 2, 0, 0, 2, 1, 0, 3, 0, 0, 0, 4, 0, 0, 0, 0, 0, 4, 1, 1, 0, 0, 0, 4, 2, 1, 0, 0, 0, 7, 2, 0,
+};
+
+static const uint8_t visits[] = {16, 0, 0, 16, 0, 1, 16, 0, 2, 16, 0, 1};
+
+static const uint8_t passed[] = {0, 14, 0, 14};
+
+/* A mark of a folder that is not declared: 19 at 2. */
+static const uint8_t undeclared[] = {1, 1, 7, 2, 0};
+
 static uint8_t history[KWELDABE_HISTORY_BYTES];
 static uint8_t answers[sizeof expected];
+
+static int lobby_is_open(void) {
+    if (kweldabe_blank(history, sizeof history) != 0) {
+        return 0;
+    }
+    kweldabe_run(lobby, sizeof lobby, history, sizeof history, visits, sizeof visits, answers, sizeof passed);
+    printf("lobby %u %u %u %u\n", (unsigned)answers[0], (unsigned)answers[1], (unsigned)answers[2], (unsigned)answers[3]);
+    return memcmp(answers, passed, sizeof passed) == 0 && kweldabe_load(undeclared, sizeof undeclared) == (2 << 8 | 19);
+}
 
 int main(void) {
     const uint64_t loaded = kweldabe_load(book, sizeof book);
@@ -40,5 +61,5 @@ int main(void) {
     }
     printf("granted %u refused %u\n", (unsigned)(ran >> 8 & 0xffffff), (unsigned)(ran >> 32 & 0xffffff));
     const int same = memcmp(answers, expected, sizeof expected) == 0;
-    return same && ran == ((uint64_t)5 << 32 | 5 << 8) ? 0 : 1;
+    return same && ran == ((uint64_t)5 << 32 | 5 << 8) && lobby_is_open() ? 0 : 1;
 }

@@ -1,4 +1,5 @@
-/* The access monitor of document 01, for C. The functions are in libexports.a, which `rt staticlib exports` writes.
+/* The access monitor of document 01, with Point 1 of document 02, for C. The functions are in libexports.a, which `rt staticlib exports`
+ * writes.
  *
  * Bytes are lent as a pointer and a length. A pointer is never null, also where the length is 0, and points to as many readable bytes
  * as the length says. What is lent for writing (history in blank, put and run; answers) overlaps nothing else that the call is lent.
@@ -6,7 +7,12 @@
  * once on different bytes.
  *
  * A call that needs the tables of a rulebook takes the bytes of the book and loads it. A refused book is answered with its number,
- * 1 to 9. A call whose own number is not 0 changes no byte. */
+ * 1 to 9 or 19. A call whose own number is not 0 changes no byte.
+ *
+ * The records of a book have kinds 0 to 7, and 2 begins at kind 8. Kind 7 has one byte, a folder, and marks that folder public: the
+ * wall passes requests for it and does not count it among the folders already opened. It still lowers levels, uses rights and takes
+ * part in the pipeline, and its firm counts in a standing. A book is refused with 4 if that folder is out of range, with 5 if it was
+ * marked before, and with 19 if it is not declared earlier. */
 #ifndef KWELDABE_H
 #define KWELDABE_H
 
@@ -23,7 +29,7 @@ extern "C" {
 /* Makes a history all zero: 0 or 10. */
 uint8_t kweldabe_blank(uint8_t *history, size_t history_length);
 
-/* Loads a book: the number in bits 0 to 7; in bits 8 to 63 the offset of the end record or of the refused one. */
+/* Loads a book: the number, 0 to 9 or 19, in bits 0 to 7; in bits 8 to 63 the offset of the end record or of the refused one. */
 uint64_t kweldabe_load(const uint8_t *book, size_t book_length);
 
 /* How many bytes follow the end record; 0 for a refused book. */

@@ -1,8 +1,14 @@
-//! The access monitor of document 01, proved in Rattle and called from Rust.
+//! The access monitor of document 01, with Point 1 of document 02 (public
+//! folders), proved in Rattle and called from Rust.
 //!
 //! A call that needs the tables of a rulebook takes the bytes of the book and
-//! loads it. A refused book is answered with its number, 1 to 9. A call whose
-//! own number is not 0 changes no byte.
+//! loads it. A refused book is answered with its number, 1 to 9 or 19. A call
+//! whose own number is not 0 changes no byte.
+//!
+//! The records of a book have kinds 0 to 7, and 2 begins at kind 8. Kind 7 has
+//! one byte, a folder, and marks that folder public: the wall passes requests
+//! for it and does not count it among the folders already opened. A book that
+//! marks a folder not declared earlier is refused with 19.
 //!
 //! The exported functions ask nothing of their arguments but what slices of
 //! Rust always keep: pointers that are not null, lengths that are right, and
@@ -17,8 +23,8 @@ pub const HISTORY_BYTES: usize = 18_944;
 /// bits each, and a run has no more answers than request bytes.
 pub const MOST_REQUEST_BYTES: usize = (1 << 24) - 1;
 
-/// What loading returns: 0 or the number of the refusal, and the offset of
-/// the end record or of the refused one.
+/// What loading returns: 0 or the number of the refusal (1 to 9, or 19), and
+/// the offset of the end record or of the refused one.
 #[derive(Clone, Copy, PartialEq, Eq, Debug)]
 pub struct Loaded {
     pub number: u8,

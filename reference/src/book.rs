@@ -1,4 +1,4 @@
-//! Loading (section "Rulebook").
+//! Loading (section "Rulebook", and Point 1 of the later requests for kind 7).
 
 use crate::level::Level;
 use crate::numbers::*;
@@ -67,6 +67,7 @@ fn body_length(kind: u8) -> Option<usize> {
         4 => Some(5),
         5 => Some(9),
         6 => Some(2),
+        7 => Some(1),
         _ => None,
     }
 }
@@ -101,7 +102,8 @@ fn take_record(book: &[u8], offset: usize, tables: &mut Tables) -> Result<Taken,
         3 => take_person(body, tables)?,
         4 => take_folder(body, tables)?,
         5 => take_role(body, tables)?,
-        _ => take_pair(body, tables)?,
+        6 => take_pair(body, tables)?,
+        _ => take_public(body, tables)?,
     }
     Ok(Taken::Next(next))
 }
@@ -160,6 +162,7 @@ fn take_folder(body: &[u8], tables: &mut Tables) -> Result<(), u8> {
         firm,
         kind,
         level: take_level(body[3], body[4]),
+        public: false,
     };
     Ok(())
 }
@@ -188,6 +191,18 @@ fn take_pair(body: &[u8], tables: &mut Tables) -> Result<(), u8> {
     need(!*entry, DECLARED_BEFORE)?;
     need(second != 0, CREATE_ENABLED)?;
     *entry = true;
+    Ok(())
+}
+
+/// A mark of a public folder; whether the folder is declared is checked where
+/// the firm of a folder is.
+fn take_public(body: &[u8], tables: &mut Tables) -> Result<(), u8> {
+    let folder = body[0];
+    need(folder <= 127, OUT_OF_RANGE)?;
+    let entry = &mut tables.folders[usize::from(folder)];
+    need(!entry.public, DECLARED_BEFORE)?;
+    need(entry.declared, FOLDER_UNDECLARED)?;
+    entry.public = true;
     Ok(())
 }
 

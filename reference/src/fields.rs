@@ -20,6 +20,7 @@ pub fn set_field(tables: &mut Tables, which: u8, index: u8, value: u64) {
         9 => tables.roles[index % ROLES].declared = value != 0,
         10 => tables.roles[index % ROLES].rights = places(value),
         11 => tables.enables[index % STEPS] = places(value),
+        12 => tables.folders[index % FOLDERS].public = value != 0,
         _ => {}
     }
 }
@@ -40,6 +41,7 @@ pub fn field(tables: &Tables, which: u8, index: u8) -> u64 {
         9 => u64::from(tables.roles[index % ROLES].declared),
         10 => number(&tables.roles[index % ROLES].rights),
         11 => number(&tables.enables[index % STEPS]),
+        12 => u64::from(tables.folders[index % FOLDERS].public),
         _ => 0,
     }
 }
@@ -57,6 +59,7 @@ pub fn table_bytes(tables: &Tables) -> Vec<u8> {
     for folder in &tables.folders {
         bytes.extend([u8::from(folder.declared), folder.firm, folder.kind]);
         bytes.extend(folder.level.number().to_le_bytes());
+        bytes.push(u8::from(folder.public));
     }
     for role in &tables.roles {
         bytes.push(u8::from(role.declared));
@@ -91,6 +94,20 @@ mod tests {
     #[test]
     fn table_bytes_have_the_length_of_the_format() {
         let bytes = table_bytes(&Tables::empty_book());
-        assert_eq!(bytes.len(), 1 + 2 * 64 + 3 * 64 + 5 * 128 + 9 * 32 + 2 * 16);
+        assert_eq!(bytes.len(), 1 + 2 * 64 + 3 * 64 + 6 * 128 + 9 * 32 + 2 * 16);
+        assert_eq!(bytes.len(), 1_409);
+    }
+
+    #[test]
+    fn the_mark_of_a_public_folder_is_the_last_of_its_six_bytes() {
+        let mut tables = Tables::empty_book();
+        let mut expected = table_bytes(&tables);
+        // The index is taken modulo 128, and any bit of the value is enough.
+        set_field(&mut tables, 12, 130, 256);
+        assert_eq!(field(&tables, 12, 2), 1);
+        expected[1 + 2 * 64 + 3 * 64 + 6 * 2 + 5] = 1;
+        assert_eq!(table_bytes(&tables), expected);
+        set_field(&mut tables, 12, 2, 0);
+        assert_eq!(tables, Tables::empty_book());
     }
 }

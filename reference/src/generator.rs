@@ -4,6 +4,7 @@
 mod altered;
 mod books;
 mod lengths;
+mod marks;
 mod requests;
 mod scenes;
 

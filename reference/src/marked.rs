@@ -1,4 +1,5 @@
-//! The marked book and requests of the section "The program `answers`".
+//! The marked book and requests of the section "The program `answers`", and a
+//! book with a public folder.
 
 pub const BOOK: [u8; 54] = [
     1, 15, // all four rules
@@ -25,3 +26,19 @@ pub fn book_with_rights(rights: [u8; 8]) -> Vec<u8> {
     book[39..47].copy_from_slice(&rights);
     book
 }
+
+/// Two rival firms, and three folders of which the last is public.
+pub const PUBLIC_BOOK: [u8; 33] = [
+    1, 1, // the wall
+    2, 0, 0, 2, 1, 0, // two rivals
+    3, 0, 0, 0, // one person
+    4, 0, 0, 0, 0, 0, 4, 1, 1, 0, 0, 0, 4, 2, 1, 0, 0, 0, // folders
+    7, 2, // the mark
+    0,
+];
+
+/// Two lists of requests for that book, each with its answers from blank.
+pub const PUBLIC_LISTS: [([u8; 12], [u8; 4]); 2] = [
+    ([16, 0, 0, 16, 0, 1, 16, 0, 2, 16, 0, 1], [0, 14, 0, 14]),
+    ([16, 0, 2, 16, 0, 0, 17, 0, 2, 16, 0, 1], [0, 0, 0, 14]),
+];

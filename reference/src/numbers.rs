@@ -1,10 +1,11 @@
-//! The published numbers (the table in "Requests and calls").
+//! The published numbers (the table in "Requests and calls", and Point 1 of
+//! the later requests for 19).
 
 /// Granted, loaded, blanked, run: the call did what was asked.
 pub const GRANTED: u8 = 0;
 /// No byte left, or body cut short.
 pub const BOOK_CUT: u8 = 1;
-/// Kind above 6.
+/// Kind above 7.
 pub const KIND_UNKNOWN: u8 = 2;
 /// Kind 1 not first, or again.
 pub const MASK_PLACE: u8 = 3;
@@ -38,3 +39,5 @@ pub const ROLES: u8 = 16;
 pub const PIPELINE: u8 = 17;
 /// Fewer answer bytes than answers due.
 pub const ANSWERS_SHORT: u8 = 18;
+/// Kind 7 names a folder not declared earlier.
+pub const FOLDER_UNDECLARED: u8 = 19;

@@ -1,5 +1,6 @@
-//! The four rules (section "Four rules") and what they look at. Each rule is
-//! asked about a request whose parties are declared.
+//! The four rules (section "Four rules", and Point 1 of the later requests for
+//! public folders) and what they look at. Each rule is asked about a request
+//! whose parties are declared.
 
 use crate::history::{counted, History};
 use crate::level::Level;
@@ -42,7 +43,8 @@ fn folders_accessed(tables: &Tables, history: &History, person: u8) -> BTreeSet<
     folders
 }
 
-/// The firms that a person opened: those of the folders accessed.
+/// The firms that a person opened: those of the folders accessed, public ones
+/// too.
 pub fn firms_opened(tables: &Tables, history: &History, person: u8) -> BTreeSet<u8> {
     let mut firms = BTreeSet::new();
     for folder in folders_accessed(tables, history, person) {
@@ -93,15 +95,20 @@ fn steps_done(tables: &Tables, history: &History, on: u8) -> BTreeSet<usize> {
 }
 
 /// Wall: granted if this person accessed some folder of the same firm, or if
-/// every folder the person accessed is in another conflict class.
+/// every folder the person accessed is in another conflict class. A request
+/// for a public folder passes, and public folders accessed do not count.
 fn wall_grants(tables: &Tables, history: &History, request: &Request) -> bool {
     let folder = match request.folder_accessed() {
         Some(folder) => folder,
         None => return true,
     };
+    if tables.folder(folder).public {
+        return true;
+    }
     let firm = tables.folder(folder).firm;
     let class = tables.class_of_folder(folder);
-    let accessed = folders_accessed(tables, history, request.person());
+    let mut accessed = folders_accessed(tables, history, request.person());
+    accessed.retain(|other| !tables.folder(*other).public);
     let some_of_same_firm = accessed
         .iter()
         .any(|other| tables.folder(*other).firm == firm);

@@ -37,6 +37,8 @@ pub struct Folder {
     pub firm: u8,
     pub kind: u8,
     pub level: Level,
+    /// Marked by a record of kind 7: anybody may open it.
+    pub public: bool,
 }
 
 #[derive(Clone, Copy, PartialEq, Eq, Debug)]
@@ -76,6 +78,7 @@ impl Tables {
                 firm: 0,
                 kind: 0,
                 level: lowest,
+                public: false,
             }; FOLDERS],
             roles: [Role {
                 declared: false,
@@ -123,7 +126,7 @@ impl Tables {
     }
 
     /// A book that declares what the tables hold: the mask, firms before
-    /// folders, and the end record.
+    /// folders, folders before their marks, and the end record.
     pub fn as_book(&self) -> Vec<u8> {
         let mut bytes = vec![1, self.mask];
         for (firm, entry) in self.firms.iter().enumerate() {
@@ -141,6 +144,11 @@ impl Tables {
             if entry.declared {
                 bytes.extend([4, folder as u8, entry.firm, entry.kind]);
                 bytes.extend(entry.level.number().to_le_bytes());
+            }
+        }
+        for (folder, entry) in self.folders.iter().enumerate() {
+            if entry.public {
+                bytes.extend([7, folder as u8]);
             }
         }
         for (role, entry) in self.roles.iter().enumerate() {
@@ -163,8 +171,8 @@ impl Tables {
 
 /// Whether some load gives these tables (number 11 otherwise). If any book
 /// loads to them, then the book written from them does: it has the same
-/// records in another order, with each firm before the folders. So it is
-/// enough to load that one book and to compare.
+/// records in another order, with the firms before the folders and these
+/// before their marks. So it is enough to load that one book and to compare.
 pub fn given(tables: &Tables) -> bool {
     let loaded = book::load(&tables.as_book());
     loaded.number == GRANTED && loaded.tables == *tables

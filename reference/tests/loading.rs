@@ -4,7 +4,7 @@ use reference::marked::BOOK;
 use reference::{load, rest, Tables};
 
 /// Good records, one put before the bad one after another.
-const GOOD: [&[u8]; 9] = [
+const GOOD: [&[u8]; 11] = [
     &[1, 15],
     &[2, 63, 31],
     &[3, 63, 255, 255],
@@ -14,6 +14,8 @@ const GOOD: [&[u8]; 9] = [
     &[6, 15, 14],
     &[2, 1, 0],
     &[4, 0, 1, 0, 0, 0],
+    &[7, 127],
+    &[7, 0],
 ];
 
 /// Expects a number for some bytes after 1, 2, 3 and more good records; the
@@ -52,6 +54,7 @@ fn number_1() {
         &[4, 5, 63, 0, 0, 0],
         &[5, 0, 0, 0, 0, 0, 0, 0, 0, 0],
         &[6, 0, 1],
+        &[7, 127],
     ] {
         for length in 1..record.len() {
             expect(1, 1, &record[..length], 0);
@@ -76,7 +79,7 @@ fn every_cut_of_the_marked_book() {
 
 #[test]
 fn number_2() {
-    for kind in 7..=255 {
+    for kind in 8..=255 {
         expect(2, 1, &[kind], 0);
         // Before the place of kind 1.
         assert_eq!(load(&[kind]).number, 2);
@@ -89,7 +92,7 @@ fn number_3() {
     // Before the body and the ranges.
     expect(3, 1, &[1], 0);
     expect(3, 1, &[1, 16], 0);
-    for kind in [0, 2, 3, 4, 5, 6] {
+    for kind in [0, 2, 3, 4, 5, 6, 7] {
         assert_eq!(load(&[kind]).number, 3);
         assert_eq!(load(&[kind, 1, 0, 0]).offset, 0);
     }
@@ -108,12 +111,18 @@ fn number_4() {
         &[5, 32, 0, 0, 0, 0, 0, 0, 0, 0],
         &[6, 16, 1],
         &[6, 1, 16],
+        &[7, 128],
+        &[7, 129],
         // Before 5, 6 and 7.
         &[4, 127, 63, 16, 0, 0],
         &[4, 5, 62, 16, 0, 0],
         &[6, 16, 0],
     ] {
         expect(4, 1, body, 0);
+    }
+    // A mark out of range is that of no folder, whatever its low seven bits.
+    for folder in 128..=255 {
+        expect(4, 1, &[7, folder, 0], 0);
     }
     for mask in 16..=255 {
         assert_eq!(load(&[1, mask, 0]).number, 4);
@@ -130,6 +139,10 @@ fn number_5() {
     expect(5, 5, &[5, 31, 0, 0, 0, 0, 0, 0, 0, 0], 0);
     expect(5, 6, &[6, 0, 15], 0);
     expect(5, 7, &[6, 15, 14], 0);
+    expect(5, 10, &[7, 127], 0);
+    expect(5, 11, &[7, 0, 0], 0);
+    // A mark makes a folder no other one.
+    expect(5, 10, &[4, 127, 63, 15, 255, 255], 0);
 }
 
 #[test]
@@ -164,6 +177,43 @@ fn number_9() {
 }
 
 #[test]
+fn number_19() {
+    for folder in 1..127 {
+        expect(19, 1, &[7, folder], 0);
+        expect(19, 1, &[7, folder, 0], 0);
+        // Declared afterwards is not declared earlier.
+        expect(19, 2, &[7, folder, 4, folder, 63, 0, 0, 0, 0], 0);
+    }
+    // The first and the last folder too, and each right before its record.
+    assert_eq!(load(&[1, 15, 7, 0, 0]).number, 19);
+    assert_eq!(load(&[1, 15, 7, 127, 0]).number, 19);
+    let book = [&GOOD[..3].concat()[..], &[7, 127], GOOD[3], &[0]].concat();
+    assert_eq!((load(&book).number, load(&book).offset), (19, 9));
+}
+
+#[test]
+fn tables_hold_the_mark_of_a_folder_and_of_no_other() {
+    for folder in 0..128 {
+        let book = [&full_folders()[..], &[7, folder, 0]].concat();
+        let tables = load(&book).tables;
+        let mut expected = load(&[&full_folders()[..], &[0]].concat()).tables;
+        assert!(expected.folders.iter().all(|entry| !entry.public));
+        expected.folders[usize::from(folder)].public = true;
+        assert_eq!(tables, expected);
+        assert_eq!(tables.as_book(), book);
+    }
+}
+
+/// A book of every folder, without its end.
+fn full_folders() -> Vec<u8> {
+    let mut book = vec![1, 15, 2, 9, 3];
+    for folder in 0..128 {
+        book.extend([4, folder, 9, folder / 8, 1, folder]);
+    }
+    book
+}
+
+#[test]
 fn tables_hold_what_the_records_declare() {
     let tables = load(&BOOK).tables;
     assert_eq!(tables.mask, 15);
@@ -190,6 +240,9 @@ fn a_full_book_loads() {
     }
     for folder in 0..128 {
         book.extend([4, folder, folder / 2, folder / 8, 1, folder]);
+    }
+    for folder in (0..128).step_by(3) {
+        book.extend([7, folder]);
     }
     for role in 0..32 {
         book.extend([5, role, role, 0, 0, 0, 0, 0, 0, 255]);

@@ -1,7 +1,7 @@
-//! P1 to P10 of the paper.
+//! P1 to P10 of the paper, and cases of public folders (Point 1).
 
 use reference::answers::answers;
-use reference::marked::{book_with_rights, ANSWERS, BOOK, REQUESTS};
+use reference::marked::{book_with_rights, ANSWERS, BOOK, PUBLIC_BOOK, PUBLIC_LISTS, REQUESTS};
 use reference::{blank, judge, load, put, rest, run, standing, Level, Tables};
 use std::io::Write;
 use std::process::{Command, Stdio};
@@ -161,4 +161,42 @@ fn p10_roles_before_pipeline() {
     let tables = load(&BOOK).tables;
     assert_eq!(put(&tables, &mut bytes, &[19, 1, 2, 2]), 17);
     assert_eq!(bytes, history());
+}
+
+#[test]
+fn a_public_folder_of_a_rival() {
+    let expected = [
+        "1 0\n2 14\n3 0\n4 14\ngranted 2 refused 2\n",
+        "1 0\n2 0\n3 0\n4 14\ngranted 3 refused 1\n",
+    ];
+    for ((requests, numbers), text) in PUBLIC_LISTS.into_iter().zip(expected) {
+        assert_eq!(program(&[&PUBLIC_BOOK[..], &requests].concat()), text);
+        let tables = load(&PUBLIC_BOOK).tables;
+        let mut bytes = history();
+        for (record, number) in requests.chunks(3).zip(numbers) {
+            assert_eq!(put(&tables, &mut bytes, record), number);
+        }
+    }
+}
+
+#[test]
+fn books_refused_for_a_mark() {
+    for (book, text) in [
+        (&[1, 1, 7, 0, 0][..], "book 19 at 2\n"),
+        (&[1, 1, 7, 128, 0], "book 4 at 2\n"),
+        (
+            &[1, 1, 2, 0, 0, 4, 0, 0, 0, 0, 0, 7, 0, 7, 0, 0],
+            "book 5 at 13\n",
+        ),
+        (&[1, 1, 8, 0, 0], "book 2 at 2\n"),
+        (&[1, 1, 7], "book 1 at 2\n"),
+        (
+            &[1, 1, 7, 5, 2, 0, 0, 4, 5, 0, 0, 0, 0, 0],
+            "book 19 at 2\n",
+        ),
+    ] {
+        assert_eq!(program(book), text);
+        assert_eq!(load(book).tables, Tables::empty_book());
+        assert!(rest(book).is_empty());
+    }
 }

@@ -39,6 +39,12 @@ fn changes_that_some_other_book_declares() {
         &[(10, 0, u64::MAX)],
         &[(11, 0, 0b1111_1111_1111_1110), (11, 1, 0)],
         &[(11, 1, 0)],
+        &[(12, 0, 1)],
+        &[(12, 130, 1 << 63)],
+        &[(12, 0, 1), (12, 1, 1), (12, 2, 1)],
+        &[(12, 0, 1), (12, 0, 0)],
+        &[(12, 9, 0)],
+        &[(5, 9, 1), (12, 9, 1)],
     ] {
         assert!(given(&changed(fields)), "{fields:?}");
     }
@@ -57,9 +63,13 @@ fn changes_that_no_book_declares() {
         &[(7, 9, 1)],
         &[(8, 9, 1)],
         &[(10, 9, 1)],
+        &[(12, 3, 1)],
+        &[(12, 127, 1)],
+        &[(12, 255, 256)],
         &[(3, 0, 0)],
         &[(9, 0, 0)],
         &[(5, 2, 0)],
+        &[(12, 0, 1), (5, 0, 0), (8, 0, 0)],
         // A folder's firm is declared.
         &[(1, 0, 0)],
         &[(6, 0, 3)],
@@ -92,7 +102,7 @@ fn given_by_ranges(tables: &Tables) -> bool {
         if folder.declared {
             folder.kind <= 15 && tables.firm_declared(folder.firm)
         } else {
-            folder.firm == 0 && folder.kind == 0 && folder.level.number() == 0
+            folder.firm == 0 && folder.kind == 0 && folder.level.number() == 0 && !folder.public
         }
     });
     let roles = tables
@@ -122,7 +132,7 @@ fn both_ways_to_ask_agree() {
     for _ in 0..4000 {
         let mut tables = load(&BOOK).tables;
         for _ in 0..random.between(1, 3) {
-            let which = random.below(12) as u8;
+            let which = random.below(13) as u8;
             let index = random.below(4) as u8;
             let value = match which {
                 11 => random.number() & random.number() & random.number(),

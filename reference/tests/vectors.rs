@@ -1,21 +1,224 @@
-//! The committed files of calls are those of the fixed seed, and they hold
-//! every published number.
+//! The committed files of calls are those of the fixed seed. They hold every
+//! published number of every call and every kind of record, and requests on
+//! which a wall that counts public folders would answer otherwise.
 
+use reference::command::{Command, Reader};
 use reference::generator::{calls, SEED};
-use reference::play::play;
+use reference::history::{set_of, History};
+use reference::play::{play, Player};
+use reference::request::{read_record, record_length};
+use reference::rules::judge_request;
+use reference::{judge, load, run, Request, Tables};
+use std::collections::{BTreeMap, BTreeSet};
 use std::fs;
+
+fn committed(name: &str) -> Vec<u8> {
+    let folder = concat!(env!("CARGO_MANIFEST_DIR"), "/../crates/cases");
+    fs::read(format!("{folder}/{name}")).unwrap()
+}
 
 #[test]
 fn committed_files_equal_what_is_written() {
-    let folder = concat!(env!("CARGO_MANIFEST_DIR"), "/../crates/cases");
-    let committed_calls = fs::read(format!("{folder}/stdin")).unwrap();
-    let committed_text = fs::read_to_string(format!("{folder}/stdout")).unwrap();
+    let (committed_calls, committed_text) = (committed("stdin"), committed("stdout"));
     assert!(calls(SEED) == committed_calls, "the calls differ");
     let played = play(&committed_calls);
-    assert!(played.text == committed_text, "the text differs");
-    for number in 0..=18 {
-        assert!(played.tally.keys().any(|(_, given)| *given == number));
-    }
+    assert!(played.text.as_bytes() == committed_text, "the text differs");
     assert!(committed_calls.len() < 400_000);
     assert!(committed_text.len() < 400_000);
+}
+
+/// The numbers that each call gives, all of them and no other.
+#[test]
+fn every_number_of_every_call() {
+    let requests = 12..=17;
+    let calls: [(&str, Vec<u8>); 7] = [
+        ("load", (0..=9).chain([19]).collect()),
+        ("blank", vec![0, 10]),
+        (
+            "judge",
+            [0, 10, 11].into_iter().chain(requests.clone()).collect(),
+        ),
+        (
+            "put",
+            [0, 10, 11].into_iter().chain(requests.clone()).collect(),
+        ),
+        ("run", vec![0, 10, 11, 18]),
+        ("answer in a run", [0].into_iter().chain(requests).collect()),
+        ("standing", vec![0, 10, 11, 13]),
+    ];
+    let tally = play(&committed("stdin")).tally;
+    for (call, numbers) in &calls {
+        let given: Vec<u8> = tally
+            .keys()
+            .filter(|(name, _)| name == call)
+            .map(|(_, number)| *number)
+            .collect();
+        assert_eq!(given, *numbers, "{call}");
+    }
+    let published: BTreeSet<u8> = calls.into_iter().flat_map(|(_, numbers)| numbers).collect();
+    assert_eq!(published, (0..=19).collect());
+}
+
+/// The books of a file of calls.
+fn books(calls: &[u8]) -> Vec<Vec<u8>> {
+    let mut reader = Reader { left: calls };
+    let mut found = Vec::new();
+    while let Some(command) = reader.command() {
+        if let Command::Load { book } = command {
+            found.push(book);
+        }
+    }
+    found
+}
+
+/// How many records of each kind a loaded book has.
+fn count_kinds(book: &[u8], end: usize, counts: &mut BTreeMap<u8, usize>) {
+    let mut offset = 0;
+    while offset <= end {
+        let kind = book[offset];
+        *counts.entry(kind).or_insert(0) += 1;
+        offset += 1 + [0, 1, 2, 3, 5, 9, 2, 1][usize::from(kind)];
+    }
+}
+
+/// Each kind is loaded, and each number of loading refuses each kind that it
+/// can.
+#[test]
+fn every_kind_of_record_is_loaded_and_refused() {
+    let mut loaded = BTreeMap::new();
+    let mut refused: BTreeMap<u8, BTreeSet<u8>> = BTreeMap::new();
+    for book in books(&committed("stdin")) {
+        let found = load(&book);
+        if found.number == 0 {
+            count_kinds(&book, found.offset, &mut loaded);
+        } else if let Some(kind) = book.get(found.offset) {
+            refused.entry(found.number).or_default().insert(*kind);
+        }
+    }
+    println!("records of each kind in books that load: {loaded:?}");
+    assert_eq!(
+        loaded.keys().copied().collect::<Vec<u8>>(),
+        (0..=7).collect::<Vec<u8>>()
+    );
+    assert!(loaded.values().all(|count| *count >= 200));
+    let unknown = refused.remove(&2).unwrap();
+    assert!(unknown.contains(&8) && unknown.contains(&255) && !unknown.contains(&7));
+    let expected: [(u8, Vec<u8>); 9] = [
+        (1, (1..=7).collect()),
+        (3, (0..=7).collect()),
+        (4, (1..=7).collect()),
+        (5, (2..=7).collect()),
+        (6, vec![4]),
+        (7, vec![6]),
+        (8, vec![0]),
+        (9, vec![0]),
+        (19, vec![7]),
+    ];
+    for (number, kinds) in expected {
+        let found: Vec<u8> = refused[&number].iter().copied().collect();
+        assert_eq!(found, kinds, "number {number}");
+    }
+}
+
+/// Shows every request that is judged, by judge, put or run, with the tables
+/// and the history before it.
+fn each_judged(calls: &[u8], mut look: impl FnMut(&Tables, &History, &Request)) {
+    let mut player = Player::new();
+    let mut reader = Reader { left: calls };
+    while let Some(command) = reader.command() {
+        let tables = &player.tables;
+        match &command {
+            Command::Judge { history, request } | Command::Put { history, request } => {
+                let front = usize::from(*history).min(player.history.len());
+                let bytes = &player.history[..front];
+                // 10, 11 and 12 come before any rule.
+                if !(10..=12).contains(&judge(tables, bytes, request)) {
+                    look(tables, &set_of(bytes), &read_record(request).unwrap());
+                }
+            }
+            Command::Run {
+                history,
+                answers,
+                requests,
+            } => {
+                let front = usize::from(*history).min(player.history.len());
+                let bytes = &player.history[..front];
+                let mut room = vec![0; usize::from(*answers).min(player.answers.len())];
+                if run(tables, &mut bytes.to_vec(), requests, &mut room).number == 0 {
+                    each_in_run(tables, set_of(bytes), requests, &mut look);
+                }
+            }
+            _ => {}
+        }
+        player.follow(&command);
+    }
+}
+
+fn each_in_run(
+    tables: &Tables,
+    mut history: History,
+    requests: &[u8],
+    look: &mut impl FnMut(&Tables, &History, &Request),
+) {
+    let mut left = requests;
+    while let Some(request) = read_record(left) {
+        look(tables, &history, &request);
+        if judge_request(tables, &history, &request) == 0 {
+            history.insert(request);
+        }
+        left = &left[record_length(left[0]).unwrap()..];
+    }
+}
+
+/// The answer of the wall alone.
+fn wall_refuses(tables: &Tables, history: &History, request: &Request) -> bool {
+    let mut alone = tables.clone();
+    alone.mask = 1;
+    judge_request(&alone, history, request) == 14
+}
+
+fn without_marks(tables: &Tables) -> Tables {
+    let mut unmarked = tables.clone();
+    for folder in &mut unmarked.folders {
+        folder.public = false;
+    }
+    unmarked
+}
+
+/// Judged requests for public folders, and those on which the wall would
+/// answer otherwise if there were no marks: a request for a public folder, a
+/// public folder of a rival in the past, and one of the same firm.
+#[test]
+fn the_wall_meets_public_folders() {
+    let (mut judged, mut for_public, mut under_wall) = (0, 0, 0);
+    let (mut passed, mut rival_past, mut same_firm_past) = (0, 0, 0);
+    each_judged(&committed("stdin"), |tables, history, request| {
+        judged += 1;
+        let folder = match request.folder_accessed() {
+            Some(folder) if request.parties_declared(tables) => folder,
+            _ => return,
+        };
+        let public = tables.folder(folder).public;
+        for_public += usize::from(public);
+        if tables.mask % 2 == 0 || !request.step_in_range() {
+            return;
+        }
+        under_wall += usize::from(public);
+        let refused = wall_refuses(tables, history, request);
+        let unmarked = wall_refuses(&without_marks(tables), history, request);
+        match (public, unmarked, refused) {
+            (true, true, false) => passed += 1,
+            (false, true, false) => rival_past += 1,
+            (false, false, true) => same_firm_past += 1,
+            _ => {}
+        }
+        assert!(!(public && refused));
+    });
+    println!(
+        "{judged} requests judged, {for_public} for a public folder, {under_wall} of these under \
+         the wall; without marks the wall would refuse {passed} of these, refuse {rival_past} \
+         others for a public folder of a rival, and pass {same_firm_past} for one of the same firm"
+    );
+    assert!(for_public >= 2_000 && under_wall >= 1_000);
+    assert!(passed >= 200 && rival_past >= 200 && same_firm_past >= 50);
 }

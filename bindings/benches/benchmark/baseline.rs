@@ -21,6 +21,8 @@ fn bit(h: &[u8], i: usize) -> bool {
 struct Past {
     level: u16,
     rights: u64,
+    /// The firms that the wall counts: of the folders that are not public. A
+    /// run asks for no other set of firms.
     firms: u64,
 }
 
@@ -71,7 +73,7 @@ fn past_over(folders: &[Folder], h: &[u8], s: usize, first: usize, past: &mut Pa
         if changed {
             past.rights |= 1 << (16 + folder.kind);
         }
-        past.firms |= 1 << folder.firm;
+        past.firms |= u64::from(!folder.public) << folder.firm;
     }
 }
 
@@ -155,9 +157,10 @@ fn in_force(t: &Tables, rule: u8) -> bool {
 }
 
 fn judge_access(t: &Tables, h: &[u8], s: usize, o: usize, right: usize, write: bool) -> u8 {
-    if in_force(t, 0) || in_force(t, 2) {
+    let walled = in_force(t, 0) && !t.folders[o].public;
+    if walled || in_force(t, 2) {
         let past = past_of(t, h, s);
-        if in_force(t, 0) && !wall_permits(t, past.firms, o) {
+        if walled && !wall_permits(t, past.firms, o) {
             return 14;
         }
         if in_force(t, 1) && write && !at_most(t.folders[o].level, past.level) {

@@ -18,6 +18,7 @@ pub struct Folder {
     pub firm: u8,
     pub kind: u8,
     pub level: u16,
+    pub public: bool,
 }
 
 #[derive(Clone, Copy, Default)]
@@ -50,7 +51,7 @@ pub fn load(book: &[u8]) -> Result<Tables, u8> {
         let kind = *book.get(at).ok_or(1)?;
         let length = match kind {
             0 => 0,
-            1 => 1,
+            1 | 7 => 1,
             2 | 6 => 2,
             3 => 3,
             4 => 5,
@@ -73,7 +74,8 @@ pub fn load(book: &[u8]) -> Result<Tables, u8> {
             3 => take_person(&mut t, body)?,
             4 => take_folder(&mut t, body)?,
             5 => take_role(&mut t, body)?,
-            _ => take_pair(&mut t, body)?,
+            6 => take_pair(&mut t, body)?,
+            _ => take_public(&mut t, body)?,
         }
         at += 1 + length;
     }
@@ -119,6 +121,7 @@ fn take_folder(t: &mut Tables, body: &[u8]) -> Result<(), u8> {
         firm: body[1],
         kind: body[2],
         level: u16::from_le_bytes([body[3], body[4]]),
+        public: false,
     };
     Ok(())
 }
@@ -142,6 +145,15 @@ fn take_pair(t: &mut Tables, body: &[u8]) -> Result<(), u8> {
     need(*set >> body[1] & 1 == 0, 5)?;
     need(body[1] != 0, 7)?;
     *set |= 1 << body[1];
+    Ok(())
+}
+
+fn take_public(t: &mut Tables, body: &[u8]) -> Result<(), u8> {
+    need(body[0] < 128, 4)?;
+    let entry = &mut t.folders[usize::from(body[0])];
+    need(!entry.public, 5)?;
+    need(entry.declared, 19)?;
+    entry.public = true;
     Ok(())
 }
 
@@ -172,7 +184,7 @@ pub fn given(t: &Tables) -> bool {
     let persons = t.persons.iter().all(|s| s.declared || s.level == 0);
     let folders = t.folders.iter().all(|o| match o.declared {
         true => o.firm < 64 && t.firms[usize::from(o.firm)].declared && o.kind <= 15,
-        false => o.firm == 0 && o.kind == 0 && o.level == 0,
+        false => o.firm == 0 && o.kind == 0 && o.level == 0 && !o.public,
     });
     let roles = t.roles.iter().all(|k| k.declared || k.rights == 0);
     let enters_create = t.steps.iter().any(|set| set & 1 == 1);

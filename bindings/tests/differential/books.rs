@@ -8,7 +8,7 @@ pub fn some_book(random: &mut Random) -> Vec<u8> {
         0..=59 => good_book(random),
         60..=92 => damaged(random),
         _ => (0..random.below(40))
-            .map(|_| random.below(8) as u8)
+            .map(|_| random.below(9) as u8)
             .collect(),
     }
 }
@@ -57,15 +57,30 @@ fn good_records(random: &mut Random) -> Vec<Vec<u8>> {
     records.extend(good_pairs(random));
     random.shuffle(&mut records);
     if !firms.is_empty() {
-        let folder_count = some_count(random, 128).max(1);
-        for folder in random.some_below(128, folder_count) {
-            let kind = random.below(16) as u8;
-            let head = vec![4, folder, random.pick(&firms), kind];
-            records.push([head, some_level(random, 0x7fff)].concat());
-        }
+        records.extend(some_folders(random, &firms));
     }
     records.insert(0, vec![1, mask]);
     records
+}
+
+/// Folders, some of them public: each mark right after its folder or at the
+/// end.
+fn some_folders(random: &mut Random, firms: &[u8]) -> Vec<Vec<u8>> {
+    let (mut records, mut marks) = (Vec::new(), Vec::new());
+    let public = random.pick(&[0, 20, 40, 60]);
+    let folder_count = some_count(random, 128).max(1);
+    for folder in random.some_below(128, folder_count) {
+        let kind = random.below(16) as u8;
+        let head = vec![4, folder, random.pick(firms), kind];
+        records.push([head, some_level(random, 0x7fff)].concat());
+        if random.chance(public) {
+            let later = random.chance(50);
+            let place = if later { &mut marks } else { &mut records };
+            place.push(vec![7, folder]);
+        }
+    }
+    random.shuffle(&mut marks);
+    [records, marks].concat()
 }
 
 /// A level below the most, with many compartments.
@@ -101,11 +116,23 @@ fn good_pairs(random: &mut Random) -> Vec<Vec<u8>> {
     pairs
 }
 
+/// The mark of a declared folder or of any number, once or twice.
+fn some_marks(random: &mut Random, records: &[Vec<u8>]) -> Vec<Vec<u8>> {
+    let folders = records.iter().filter(|record| record[0] == 4);
+    let declared: Vec<u8> = folders.map(|record| record[1]).collect();
+    let folder = if declared.is_empty() || random.chance(50) {
+        random.byte()
+    } else {
+        random.pick(&declared)
+    };
+    vec![vec![7, folder]; random.between(1, 2)]
+}
+
 /// A good book with one thing wrong, most of the time.
 fn damaged(random: &mut Random) -> Vec<u8> {
     let mut records = good_records(random);
     let at = random.below(records.len());
-    match random.below(10) {
+    match random.below(12) {
         0 => records.push(records[at].clone()),
         1 => records.push(vec![6, random.below(16) as u8, random.below(16) as u8]),
         2 => records.push(vec![
@@ -131,6 +158,8 @@ fn damaged(random: &mut Random) -> Vec<u8> {
             book.truncate(random.below(book.len()));
             return book;
         }
+        9 => records.extend(some_marks(random, &records)),
+        10 => random.shuffle(&mut records[1..]),
         _ => random.shuffle(&mut records),
     }
     let mut book = finished(records);

@@ -1,6 +1,7 @@
 //! The monitor under test: the proved one, or one that is wrong in one place.
 
 use kweldabe::{Loaded, Ran, Standing};
+use reference::request::read_record;
 
 pub trait Monitor {
     fn blank(&self, history: &mut [u8]) -> u8 {
@@ -47,10 +48,13 @@ pub enum Mutation {
     AnswerPastTheLast,
     CountsSwapped,
     OneFirmMore,
+    SixForNineteen,
+    PublicNotPassed,
+    PublicPastCounts,
 }
 
 impl Mutation {
-    pub const ALL: [Mutation; 9] = [
+    pub const ALL: [Mutation; 12] = [
         Mutation::BlankKeepsAByte,
         Mutation::OffsetOfNext,
         Mutation::RestOfRefused,
@@ -60,6 +64,9 @@ impl Mutation {
         Mutation::AnswerPastTheLast,
         Mutation::CountsSwapped,
         Mutation::OneFirmMore,
+        Mutation::SixForNineteen,
+        Mutation::PublicNotPassed,
+        Mutation::PublicPastCounts,
     ];
 }
 
@@ -70,6 +77,26 @@ pub struct Mutant {
 impl Mutant {
     fn is(&self, mutation: Mutation) -> bool {
         self.mutation == mutation
+    }
+
+    /// The book by which a request is judged: for two mutations the folder
+    /// asked for has no mark, or every other folder has none.
+    fn book_for(&self, book: &[u8], request: &[u8]) -> Vec<u8> {
+        let asked = read_record(request).and_then(|request| request.folder_accessed());
+        let loaded = reference::load(book);
+        let (own, others) = (
+            self.is(Mutation::PublicNotPassed),
+            self.is(Mutation::PublicPastCounts),
+        );
+        if loaded.number != 0 || !(own || others) {
+            return book.to_vec();
+        }
+        let mut tables = loaded.tables;
+        for (folder, entry) in tables.folders.iter_mut().enumerate() {
+            let is_asked = asked.map(usize::from) == Some(folder);
+            entry.public &= if is_asked { !own } else { !others };
+        }
+        tables.as_book()
     }
 }
 
@@ -90,6 +117,9 @@ impl Monitor for Mutant {
         if self.is(Mutation::OffsetOfNext) && loaded.number == 5 {
             loaded.offset += 1;
         }
+        if self.is(Mutation::SixForNineteen) && loaded.number == 19 {
+            loaded.number = 6;
+        }
         loaded
     }
 
@@ -101,7 +131,7 @@ impl Monitor for Mutant {
     }
 
     fn judge(&self, book: &[u8], history: &[u8], request: &[u8]) -> u8 {
-        let number = kweldabe::judge(book, history, request);
+        let number = kweldabe::judge(&self.book_for(book, request), history, request);
         if self.is(Mutation::LowWaterPasses) && number == 15 {
             return 0;
         }

@@ -8,6 +8,12 @@ use kweldabe::HISTORY_BYTES;
 use reference::random::Random;
 use std::fmt::Debug;
 
+/// The numbers published so far are 0 to 19.
+pub const NUMBERS: usize = 20;
+
+/// How often each number was given.
+pub type Seen = [usize; NUMBERS];
+
 /// The calls of a scene beside load and rest.
 const CALLS: usize = 40;
 
@@ -15,7 +21,7 @@ const CALLS: usize = 40;
 const DENSE_CALLS: usize = 4;
 
 /// Plays the scene of a seed: how many calls agree, or the first difference.
-pub fn play(monitor: &impl Monitor, seed: u64, seen: &mut [usize; 19]) -> Result<usize, String> {
+pub fn play(monitor: &impl Monitor, seed: u64, seen: &mut Seen) -> Result<usize, String> {
     let mut random = Random::new(seed);
     let book = some_book(&mut random);
     let mut scene = Scene::new(monitor, seen, random, book);
@@ -29,7 +35,7 @@ pub fn play(monitor: &impl Monitor, seed: u64, seen: &mut [usize; 19]) -> Result
 pub fn play_long(monitor: &impl Monitor, seed: u64, count: usize) -> Result<(), String> {
     let mut random = Random::new(seed);
     let book = good_book(&mut random);
-    let mut seen = [0; 19];
+    let mut seen = [0; NUMBERS];
     let mut scene = Scene::new(monitor, &mut seen, random, book);
     scene.history = vec![0; HISTORY_BYTES];
     scene
@@ -39,7 +45,7 @@ pub fn play_long(monitor: &impl Monitor, seed: u64, count: usize) -> Result<(), 
 
 struct Scene<'a, M: Monitor> {
     monitor: &'a M,
-    seen: &'a mut [usize; 19],
+    seen: &'a mut Seen,
     random: Random,
     book: Lent,
     book_before: Vec<u8>,
@@ -67,7 +73,7 @@ fn kept(call: &str, what: &str, lent: &Lent, bytes: &[u8]) -> Result<(), String>
 }
 
 impl<'a, M: Monitor> Scene<'a, M> {
-    fn new(monitor: &'a M, seen: &'a mut [usize; 19], random: Random, book: Vec<u8>) -> Self {
+    fn new(monitor: &'a M, seen: &'a mut Seen, random: Random, book: Vec<u8>) -> Self {
         let loaded = reference::load(&book);
         Scene {
             monitor,

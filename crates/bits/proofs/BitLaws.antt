@@ -1,7 +1,19 @@
 -- The bits of a number under "or", "and", halving and setting a bit, and that a number below 2 ^ w is fixed by its w lowest bits. The laws
 -- hold at every width, by induction on the width: a number is its half twice, and its lowest bit. The code's shifts and masks cite them.
 use Prim.Native.Nat.{ℕ, zero, suc, _+_, _-_, _*_, _/_, _%_, _^_, _≤_, _<_, min, max}
-use native.Mathlib.Nat.{pow-suc, div-one, one-mul, mul-suc, mul-comm, mul-assoc, mul-le-mul-left, lt-of-le-of-lt, mod-lt}
+use native.Mathlib.Nat.{
+  pow-suc,
+  div-one,
+  one-mul,
+  zero-mul,
+  mul-suc,
+  mul-comm,
+  mul-assoc,
+  mul-le-mul-left,
+  lt-of-le-of-lt,
+  mod-lt,
+  mod-eq-of-lt,
+}
 use native.Mathlib.Numerals.{one-add}
 use native.Mathlib.Omega.{arith}
 use mathlib.Core.Path.{_≡_, refl, sym, ap, ap₂, _∙_}
@@ -9,7 +21,7 @@ use mathlib.Core.Logic.{_⊎_, inl, inr, ⊎-elim}
 use mathlib.Core.Bool
 use mathlib.Core.Bool.{Bool, true, false, cond, _&&_, _||_, false≢true}
 use lib.Arith.{lt-one}
-use lib.Bits.{bitAnd, bitOr, and-step, or-step, and-shr, or-shr, and-le-l, and-mask, or-lt, or-shifted-r}
+use lib.Bits.{bitAnd, bitOr, and-step, or-step, and-shr, or-shr, and-le-l, and-mask, or-lt, or-shifted-r, or-zero-r}
 use lib.Count.{ones, ones-step}
 use lib.Dec.{eqb, leb, ltb, leb·suc-suc, eqb·zero-suc, eqb·suc-zero, eqb·suc-suc, lit<}
 use lib.Pow.{pow-lt, pow-pos, pow-add, shr-shr, shl-exact}
@@ -175,6 +187,14 @@ with-masked-bit v n k =
     rw (and-mask k v)
     (ap (bitOr n)
     (shl-exact 1 (k % 2 ^ v) (2 ^ v) (lit< tt) (let l = mod-lt k (pow-pos v) in omega arith) ∙ one-mul (2 ^ (k % 2 ^ v))))
+
+-- `n | (x << (k & mask))`, where x is 1 for a test that holds, and 0 otherwise
+pub with-masked-bit-if : (v n k x : ℕ) (add : Bool) → x ≡ cond add 1 0
+    → bitOr n ((x * 2 ^ bitAnd k (2 ^ v - 1)) % 2 ^ 2 ^ v) ≡ cond add (withBit n (k % 2 ^ v)) n
+with-masked-bit-if v n k x true e = rw e (with-masked-bit v n k)
+with-masked-bit-if v n k x false e =
+    let none : x * 2 ^ bitAnd k (2 ^ v - 1) ≡ 0 = rw e (zero-mul (2 ^ bitAnd k (2 ^ v - 1))) in
+    rw none (ap (bitOr n) (mod-eq-of-lt (pow-pos (2 ^ v))) ∙ or-zero-r n)
 
 -- ---- a number above w bits of another
 

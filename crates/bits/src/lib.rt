@@ -47,6 +47,13 @@ pub fn with_bit64(n: u64, k: usize) -> u64
     n | (1 << (k & 63))
 }
 
+// 1 where a test holds, and 0 otherwise.
+pub fn one_if(test: bool) -> u64
+    ensures { λ r. ⌜ (r ≡ cond test 1 0) × (r < 2) ⌝ }
+{
+    if test { 1 } else { 0 }
+}
+
 // n, with bit k set if `add`.
 pub fn with_bit64_if(add: bool, n: u64, k: usize) -> u64
     ensures { λ r. ⌜ r ≡ cond add (withBit n (k % 64)) n ⌝ }

@@ -71,7 +71,8 @@ fn with_folder(sum: u64, e: Folder) -> u64 {
     let firm = with_byte(marked, e.firm);
     let kind = with_byte(firm, e.kind);
     let level = e.level;
-    with_pair(kind, level.0)
+    let levelled = with_pair(kind, level.0);
+    with_mark(levelled, e.public)
 }
 
 // The digest with a role more.

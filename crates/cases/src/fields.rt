@@ -46,7 +46,7 @@ fn person(e: Person, which: u8, value: u64) -> Person {
     }
 }
 
-// A folder with its mark (5), firm (6), kind (7) or level changed.
+// A folder with its mark (5), firm (6), kind (7), the mark of a public one (12) or its level changed.
 fn folder(e: Folder, which: u8, value: u64) -> Folder {
     let mut n = e;
     let level = Level(low16(value));
@@ -54,6 +54,7 @@ fn folder(e: Folder, which: u8, value: u64) -> Folder {
         5 => n.declared = value != 0,
         6 => n.firm = low8(value),
         7 => n.kind = low8(value),
+        12 => n.public = value != 0,
         _ => n.level = level,
     }
     n
@@ -80,7 +81,7 @@ pub fn changed(t: Tables, which: u8, index: usize, value: u64) -> Tables {
         0 => n.mask = low8(value),
         1..=2 => n.firms[index % 64] = firm(t.firms[index % 64], which, value),
         3..=4 => n.persons[index % 64] = person(t.persons[index % 64], which, value),
-        5..=8 => n.folders[index % 128] = folder(t.folders[index % 128], which, value),
+        5..=8 | 12 => n.folders[index % 128] = folder(t.folders[index % 128], which, value),
         9..=10 => n.roles[index % 32] = role(t.roles[index % 32], which, value),
         11 => n.steps[index % 16] = low16(value),
         _ => (),

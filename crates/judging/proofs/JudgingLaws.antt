@@ -212,7 +212,7 @@ module _ (t : Tables) (H : Request → Bool) where
   module _ (ok : given t ≡ true) where
     -- what a person did, once it is gathered, decides an access as the definitions do
     pub access-past : (s o new : ℕ) (writes : Bool) (past : Past) → folderDeclared t o ≡ true → past ≡ pastOf t H s
-        → numberOf t (wallBy t (past .firms) o) (writes implies atMost 12 (folderAt t o .level .0) (past .level .0)) (rolesBy t
+        → numberOf t (wallBy t (past .counted) o) (writes implies atMost 12 (folderAt t o .level .0) (past .level .0)) (rolesBy t
         (past .rights) new)
         ≡ accessNumber t H s o new writes
     unfolding accessNumber pastOf

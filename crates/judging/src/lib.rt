@@ -34,13 +34,13 @@ fn level_permits(write: bool, folder: Level, person: Level) -> bool
 fn judge_past(t: &Words, did: Past, o: usize, right: usize, write: bool) -> u8
     requires { ⌜ (given (tablesOf (now t)) ≡ true) × (folderDeclared (tablesOf (now t)) o ≡ true) ⌝ }
     ensures { λ r. ⌜
-        r ≡ numberOf (tablesOf (now (t .entry))) (wallBy (tablesOf (now (t .entry))) (did .firms) o)
+        r ≡ numberOf (tablesOf (now (t .entry))) (wallBy (tablesOf (now (t .entry))) (did .counted) o)
         (write implies atMost 12 (folderAt (tablesOf (now (t .entry))) o .level .0) (did .level .0))
         (rolesBy (tablesOf (now (t .entry))) (did .rights) right)
         ⌝ }
 {
     if packed::in_force(t, policy::WALL_RULE) {
-        if !rules::wall_permits(t, did.firms, o) {
+        if !rules::wall_permits(t, did.counted, o) {
             return numbers::WALL;
         }
     }

@@ -15,10 +15,16 @@ use Rattle.policy.specs.declared.Tables.{Tables}
 unfoldable pub levelIn : ℕ → Level
 levelIn x = record { 0 = x % 65536 }
 
--- a folder: its mark in the lowest byte, then its firm, its kind and its level
+-- a folder: its mark in the lowest byte, then its firm, its kind, its level and whether it is public
 unfoldable pub folderOf : ℕ → Folder
 folderOf x =
-    record { declared = eqb (x % 256) 1; firm = x / 256 % 256; kind = x / 65536 % 256; level = levelIn (x / 16777216) }
+    record {
+      declared = eqb (x % 256) 1;
+      firm = x / 256 % 256;
+      kind = x / 65536 % 256;
+      level = levelIn (x / 16777216);
+      public = bit x 40;
+    }
 
 -- a firm: its mark in the lowest byte, then its class
 unfoldable pub firmOf : ℕ → Firm

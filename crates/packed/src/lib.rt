@@ -26,6 +26,7 @@ pub fn folder(t: &Words, o: usize) -> Folder
         firm: (x / 256 % 256) as u8,
         kind: (x / 65536 % 256) as u8,
         level: Level((x / 16777216 % 65536) as u16),
+        public: bits::bit64(x, 40),
     }
 }
 

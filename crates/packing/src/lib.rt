@@ -1,7 +1,6 @@
 // Packing the tables in one array of numbers (crate `packed`), part after part, from the lowest place on.
 ghost use mathlib.Core.Path.{_≡_};
-ghost use mathlib.Core.Bool.{cond};
-ghost use Prim.Native.Nat.{_<_, _%_};
+ghost use Prim.Native.Nat.{_%_};
 ghost use lib.ListN.{length};
 ghost use Rattle.bits.specs.Bits.{maskBelow};
 ghost use Rattle.policy.specs.Tables.{firmAt, personAt, folderAt, roleAt, enabledBy, personDeclared, roleDeclared};
@@ -13,22 +12,16 @@ use policy::Folder;
 use policy::Person;
 use policy::Tables;
 
-// A mark as a word: 1 for a declared entry.
-fn mark(declared: bool) -> u64
-    ensures { λ r. ⌜ (r ≡ cond declared 1 0) × (r < 2) ⌝ }
-{
-    if declared { 1 } else { 0 }
-}
-
 // The word of a folder.
 fn folder_word(e: Folder) -> u64
     ensures { λ r. ⌜ folderOf r ≡ e ⌝ }
 {
     let level = e.level;
-    mark(e.declared)
+    bits::one_if(e.declared)
         + 256 * bits::word8(e.firm)
         + 65536 * bits::word8(e.kind)
         + 16777216 * bits::word16(level.0)
+        + 1099511627776 * bits::one_if(e.public)
 }
 
 // The word of a person's level.
@@ -43,7 +36,7 @@ fn level_word(e: Person) -> u64
 fn firm_word(e: Firm) -> u64
     ensures { λ r. ⌜ firmOf r ≡ e ⌝ }
 {
-    mark(e.declared) + 256 * bits::word8(e.class)
+    bits::one_if(e.declared) + 256 * bits::word8(e.class)
 }
 
 // The folders.

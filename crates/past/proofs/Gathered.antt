@@ -1,11 +1,11 @@
--- What a pass over the folders has gathered after n of them: the level lowered by the folders read, and the rights used and the firms
--- opened on the folders below n. A folder that the person did not access changes nothing, any other adds its own, and after all
--- folders and the starts the whole is what the person did.
+-- What a pass over the folders has gathered after n of them: the level lowered by the folders read, and the rights used, the firms opened
+-- and the firms that the wall counts on the folders below n. A folder that the person did not access changes nothing, any other adds its
+-- own, and after all folders and the starts the whole is what the person did.
 use Prim.Native.Nat.{ℕ, _+_, _*_, _^_, _<_}
 use native.Mathlib.Omega.{arith}
 use mathlib.Core.Path.{_≡_, refl, sym, ap, ap₂, _∙_}
 use mathlib.Core.Logic.{⊎-elim}
-use mathlib.Core.Bool.{Bool, true, false, _&&_, _||_, or-assoc, or-comm, and-true, and-false}
+use mathlib.Core.Bool.{Bool, true, false, not, _&&_, _||_, or-assoc, or-comm, and-true, and-false}
 use mathlib.Core.List.{List}
 use lib.Bits.{bitOr}
 use lib.Dec.{eqb, lit<}
@@ -18,21 +18,55 @@ use Rattle.bits.proofs.Bounds.{any-start, any-more, any-some, some-any, any-ext
 use Rattle.bits.proofs.BitLaws.{bit-zero}
 use Rattle.policy.specs.declared.Folder.{Folder}
 use Rattle.policy.specs.declared.Tables.{Tables}
-use Rattle.policy.specs.Tables.{personAt, folderAt, personDeclared}
+use Rattle.policy.specs.Tables.{personAt, folderAt, personDeclared, isPublic}
 use Rattle.policy.specs.Rulebook.{given}
 use Rattle.policy.specs.History.{bitAt}
 use Rattle.policy.specs.Request.{Request, read, write, start, step, index, setOf}
-use Rattle.policy.specs.Rules.{right, someRequest, did, accessed, opened, used, loweredBy, currentLevel}
+use Rattle.policy.specs.Rules.{
+  right,
+  someRequest,
+  firmOfSome,
+  did,
+  accessed,
+  opened,
+  counts,
+  counted,
+  used,
+  loweredBy,
+  currentLevel,
+}
 use Rattle.past.specs.declared.Past.{Past}
-use Rattle.past.specs.Past.{usedOn, openedOn, pastBelow, pastOf}
+use Rattle.past.specs.Past.{usedOn, firmOn, firmsBelow, pastBelow, pastOf}
 use Rattle.past.specs.Turns.{withBitIf, levelIf, stepAt, startAt, started, rightsOf, rightsOn, levelAfter, pastWith, pastAfter}
 use Rattle.bits.proofs.Masks.{bit-mask-below, mask-lt, mask-of-bits, mask-ext, mask-none, mask-or, mask-with, mask-shifted}
 use Rattle.past.proofs.Recorded.{firm-below, kind-below, did-read, did-write, did-step, did-start, lowered}
 
-same-past : {level level′ rights rights′ firms firms′ : ℕ} → level ≡ level′ → rights ≡ rights′ → firms ≡ firms′
-    → _≡_ {A = Past} (record { level = record { 0 = level }; rights = rights; firms = firms })
-    (record { level = record { 0 = level′ }; rights = rights′; firms = firms′ })
-same-past l r f = rw (l, r, f)
+same-past : {level level′ rights rights′ firms firms′ counted counted′ : ℕ} → level ≡ level′ → rights ≡ rights′ → firms ≡ firms′
+    → counted ≡ counted′
+    → _≡_ {A = Past} (record { level = record { 0 = level }; rights = rights; firms = firms; counted = counted })
+    (record { level = record { 0 = level′ }; rights = rights′; firms = firms′; counted = counted′ })
+same-past l r f c = rw (l, r, f, c)
+
+-- ---- the firms of some folders, one folder more
+
+module _ (t : Tables) (p : ℕ → Bool) where
+  firms-start : 0 ≡ firmsBelow t p 0
+  unfolding firmsBelow
+  firms-start = sym (mask-none 64 _ (λ f l. any-start (firmOn t p f)))
+
+  firms-same : (n : ℕ) → p n ≡ false → firmsBelow t p n ≡ firmsBelow t p (n + 1)
+  unfolding firmsBelow firmOn
+  firms-same n none =
+      mask-ext 64 _ _ (λ f l.
+      sym (any-more n (firmOn t p f) ∙ ap (λ (b : Bool). b && eqb (folderAt t n .firm) f || anyBelow n (firmOn t p f)) none))
+
+  firms-more : (n : ℕ) (add : Bool) → p n ≡ add → folderAt t n .firm < 64
+      → withBitIf add (firmsBelow t p n) (folderAt t n .firm) ≡ firmsBelow t p (n + 1)
+  unfolding firmsBelow firmOn
+  firms-more n add here firm =
+      mask-with 64 (λ f. anyBelow n (firmOn t p f)) (folderAt t n .firm) add firm
+      ∙ mask-ext 64 _ _ (λ f l.
+      sym (any-more n (firmOn t p f) ∙ ap (λ (b : Bool). b && eqb (folderAt t n .firm) f || anyBelow n (firmOn t p f)) here))
 
 -- ---- the turn of the pass, by cases
 
@@ -52,11 +86,11 @@ module _ (e : Folder) (h : List ℕ) (s o : ℕ) (before : Past) where
 -- ---- one folder more, over a set of requests
 
 module _ (t : Tables) (H : Request → Bool) (s : ℕ) where
-  pub past-start : record { level = personAt t s .level; rights = 0; firms = 0 } ≡ pastBelow t H s 0
+  pub past-start : record { level = personAt t s .level; rights = 0; firms = 0; counted = 0 } ≡ pastBelow t H s 0
   unfolding pastBelow
   past-start =
       same-past (sym (fold-start (loweredBy t H s) (personAt t s .level .0)))
-      (sym (mask-none 64 _ (λ x l. any-start (usedOn t H s x)))) (sym (mask-none 64 _ (λ f l. any-start (openedOn t H s f))))
+      (sym (mask-none 64 _ (λ x l. any-start (usedOn t H s x)))) (firms-start t (accessed t H s)) (firms-start t (counts t H s))
 
   -- a right that was used on a folder was used by an access
   used-accessed : (x o : ℕ) → usedOn t H s x o ≡ true → accessed t H s o ≡ true
@@ -105,9 +139,9 @@ module _ (t : Tables) (H : Request → Bool) (s : ℕ) where
   unfolding loweredBy accessed
   unread o level n = rw (false-intro (did t H (read s o)) (λ d. false-elim (accessed t H s o) n (or-left _ _ (or-left _ _ d))))
 
-  unopened : (f o : ℕ) → accessed t H s o ≡ false → openedOn t H s f o ≡ false
-  unfolding openedOn
-  unopened f o n = rw n
+  uncounted : (o : ℕ) → accessed t H s o ≡ false → counts t H s o ≡ false
+  unfolding counts
+  uncounted o n = rw n
 
   -- a folder that the person did not access changes nothing
   pub untouched : (n : ℕ) → accessed t H s n ≡ false → pastBelow t H s n ≡ pastBelow t H s (n + 1)
@@ -115,19 +149,20 @@ module _ (t : Tables) (H : Request → Bool) (s : ℕ) where
   untouched n none =
       same-past (sym (fold-more n (loweredBy t H s) _ ∙ unread n _ none))
       (mask-ext 64 _ _ (λ x l. sym (any-more n (usedOn t H s x) ∙ ap (λ (b : Bool). b || anyBelow n (usedOn t H s x)) (unused x n none))))
-      (mask-ext 64 _ _ (λ f l.
-      sym (any-more n (openedOn t H s f) ∙ ap (λ (b : Bool). b || anyBelow n (openedOn t H s f)) (unopened f n none))))
+      (firms-same t (accessed t H s) n none) (firms-same t (counts t H s) n (uncounted n none))
 
-  opened-here : (f o : ℕ) → accessed t H s o ≡ true → openedOn t H s f o ≡ eqb (folderAt t o .firm) f
-  unfolding openedOn
-  opened-here f o a = rw a
+  counts-here : (o : ℕ) → accessed t H s o ≡ true → counts t H s o ≡ not (isPublic t o)
+  unfolding counts
+  counts-here o a = rw a
 
-  -- a folder that the person accessed lowers the level if it was read, and adds its rights and its firm
+  -- a folder that the person accessed lowers the level if it was read, and adds its rights and its firm, which the wall counts if the
+  -- folder is not public
   pub touched : (n rights : ℕ) → accessed t H s n ≡ true → folderAt t n .firm < 64 → rights ≡ maskBelow 64 (λ x. usedOn t H s x n)
       → record {
         level = record { 0 = loweredBy t H s n (pastBelow t H s n .level .0) };
         rights = bitOr (pastBelow t H s n .rights) rights;
         firms = withBit (pastBelow t H s n .firms) (folderAt t n .firm);
+        counted = withBitIf (not (isPublic t n)) (pastBelow t H s n .counted) (folderAt t n .firm);
       }
       ≡ pastBelow t H s (n + 1)
   unfolding pastBelow
@@ -135,9 +170,7 @@ module _ (t : Tables) (H : Request → Bool) (s : ℕ) where
       same-past (sym (fold-more n (loweredBy t H s) _))
       (ap (bitOr (maskBelow 64 (λ x. anyBelow n (usedOn t H s x)))) here ∙ mask-or 64 _ _
       ∙ mask-ext 64 _ _ (λ x l. sym (any-more n (usedOn t H s x))))
-      (mask-with 64 (λ f. anyBelow n (openedOn t H s f)) (folderAt t n .firm) true firm
-      ∙ mask-ext 64 _ _ (λ f l.
-      sym (any-more n (openedOn t H s f) ∙ ap (λ (b : Bool). b || anyBelow n (openedOn t H s f)) (opened-here f n some))))
+      (firms-more t (accessed t H s) n true some firm) (firms-more t (counts t H s) n (not (isPublic t n)) (counts-here n some) firm)
 
 -- ---- one folder more, over a history's bytes
 
@@ -219,9 +252,10 @@ module _ (t : Tables) (h : List ℕ) (s : ℕ) (person : personDeclared t s ≡ 
         level = record { 0 = loweredBy t (setOf h) s n (before .level .0) };
         rights = bitOr (before .rights) (rightsOn (folderAt t n) h s n);
         firms = withBit (before .firms) (folderAt t n .firm);
+        counted = withBitIf (not (isPublic t n)) (before .counted) (folderAt t n .firm);
       })
   unfolding pastWith
-  with-folder n l d = same-past (level-here n _ l d) refl refl
+  with-folder n l d = same-past (level-here n _ l d) refl refl refl
 
   declared-step : (n : ℕ) → n < 128 → given t ≡ true → folderAt t n .declared ≡ true
       → pastAfter (folderAt t n) h s n (pastBelow t (setOf h) s n) ≡ pastBelow t (setOf h) s (n + 1)
@@ -277,9 +311,14 @@ used-whole t H s x =
 -- what person s did on all folders, with the starts, is all that the person did
 pub past-whole : (t : Tables) (h : List ℕ) (s : ℕ) → personDeclared t s ≡ true
     → (let before = pastBelow t (setOf h) s 128 in
-    record { level = before .level; rights = withBitIf (started t h s) (before .rights) 32; firms = before .firms })
+    record {
+      level = before .level;
+      rights = withBitIf (started t h s) (before .rights) 32;
+      firms = before .firms;
+      counted = before .counted;
+    })
     ≡ pastOf t (setOf h) s
-unfolding pastBelow pastOf currentLevel opened openedOn started
+unfolding pastBelow firmsBelow pastOf currentLevel firmOfSome opened counted firmOn started
 past-whole t h s person =
     same-past refl
     (mask-with 64 (λ x. anyBelow 128 (usedOn t (setOf h) s x)) 32 (started t h s) (lit< tt)
@@ -287,4 +326,4 @@ past-whole t h s person =
     ap (λ (b : Bool). b && eqb 32 x || anyBelow 128 (usedOn t (setOf h) s x))
     (any-ext 64 (startAt t h s) _ (λ u m. sym (did-start t h s person u m)))
     ∙ used-whole t (setOf h) s x))
-    refl
+    refl refl

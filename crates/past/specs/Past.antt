@@ -1,4 +1,5 @@
--- What a person did: the current level, the set of the rights used and the set of the firms opened.
+-- What a person did: the current level, the set of the rights used, the set of the firms opened and the set of the firms that the wall
+-- counts.
 use Prim.Native.Nat.{ℕ}
 use mathlib.Core.Bool.{Bool, _&&_, _||_}
 use lib.Dec.{eqb}
@@ -7,7 +8,7 @@ use Rattle.policy.specs.declared.Tables.{Tables}
 use Rattle.bits.specs.Bounded.{anyBelow, foldBelow}
 use Rattle.policy.specs.Tables.{personAt, folderAt}
 use Rattle.policy.specs.Request.{Request, read, write, step}
-use Rattle.policy.specs.Rules.{right, did, accessed, loweredBy, currentLevel, used, opened}
+use Rattle.policy.specs.Rules.{right, did, accessed, counts, loweredBy, currentLevel, used, opened, counted}
 use Rattle.past.specs.declared.Past.{Past}
 
 -- what person s did, over the set H of the requests granted so far
@@ -17,6 +18,7 @@ pastOf t H s =
       level = record { 0 = currentLevel t H s };
       rights = maskBelow 64 (used t H s);
       firms = maskBelow 64 (opened t H s);
+      counted = maskBelow 64 (counted t H s);
     }
 
 -- person s used right x on folder o
@@ -26,9 +28,13 @@ usedOn t H s x o =
     || did t H (write s o) && eqb (right t (write s o)) x
     || anyBelow 16 (λ p. did t H (step s p o) && eqb (right t (step s p o)) x)
 
--- person s opened firm f by folder o
-unfoldable pub openedOn : Tables → (Request → Bool) → ℕ → ℕ → ℕ → Bool
-openedOn t H s f o = accessed t H s o && eqb (folderAt t o .firm) f
+-- folder o, of which p holds, is of firm f
+unfoldable pub firmOn : Tables → (ℕ → Bool) → ℕ → ℕ → Bool
+firmOn t p f o = p o && eqb (folderAt t o .firm) f
+
+-- the firms of the folders below n of which p holds
+unfoldable pub firmsBelow : Tables → (ℕ → Bool) → ℕ → ℕ
+firmsBelow t p n = maskBelow 64 (λ f. anyBelow n (firmOn t p f))
 
 -- what person s did on the folders below n
 unfoldable pub pastBelow : Tables → (Request → Bool) → ℕ → ℕ → Past
@@ -36,5 +42,6 @@ pastBelow t H s n =
     record {
       level = record { 0 = foldBelow n (loweredBy t H s) (personAt t s .level .0) };
       rights = maskBelow 64 (λ x. anyBelow n (usedOn t H s x));
-      firms = maskBelow 64 (λ f. anyBelow n (openedOn t H s f));
+      firms = firmsBelow t (accessed t H s) n;
+      counted = firmsBelow t (counts t H s) n;
     }

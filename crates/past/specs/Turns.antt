@@ -72,6 +72,7 @@ pastWith e h s o before =
       level = record { 0 = levelIf (bitAt h (index (read s o))) (before .level .0) (e .level .0) };
       rights = bitOr (before .rights) (rightsOn e h s o);
       firms = withBit (before .firms) (e .firm);
+      counted = withBitIf (not (e .public)) (before .counted) (e .firm);
     }
 
 -- what the person did after folder o, whose entry is e

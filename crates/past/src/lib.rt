@@ -1,10 +1,11 @@
-// What a person did, gathered in one pass over the declared folders: the current level, the rights used and the firms opened.
+// What a person did, gathered in one pass over the declared folders: the current level, the rights used, the firms opened and the firms
+// that the wall counts.
 // Each public function is called for a declared person, over tables that a load gives and a history of 18,944 bytes.
 // Indexes of bits (document 01, "History"), for person s: 128 * s + o for a read of folder o, 8192 more for a write,
 // 16384 + 64 * s + u for a start of person u, 20480 + 64 * (16 * o + p) + s for step p on folder o.
 // Rights: the folder's kind for a read, 16 + kind for a write, 32 for a start, 48 + p for step p.
 ghost use mathlib.Core.Path.{_≡_};
-ghost use mathlib.Core.Bool.{true};
+ghost use mathlib.Core.Bool.{true, not};
 ghost use Prim.Native.Nat.{_+_, _*_, _%_, _≤_, _<_};
 ghost use lib.ListN.{length};
 ghost use Rattle.bits.specs.Bits.{maskBelow};
@@ -16,17 +17,19 @@ ghost use Rattle.policy.specs.Request.{read, write, index, setOf};
 ghost use Rattle.policy.specs.Rules.{currentLevel};
 ghost use Rattle.packed.specs.Packed.{tablesOf};
 ghost use Rattle.past.specs.Past.{pastBelow, pastOf};
-ghost use Rattle.past.specs.Turns.{InBounds, FolderInBounds, isUntouched, levelIf, stepAt, rightsOf};
+ghost use Rattle.past.specs.Turns.{InBounds, FolderInBounds, withBitIf, isUntouched, levelIf, stepAt, rightsOf};
 ghost use Rattle.past.specs.Turns.{levelAfter, levelOver, pastAfter, startByteAt, started};
 use level::Level;
 use packed::Words;
 use policy::Folder;
 
-// A person's current level, the set of the rights used and the set of the firms opened: bit k for number k.
+// A person's current level, the set of the rights used, the set of the firms opened and the set of the firms that the wall counts, which
+// are those of the folders accessed that are not public: bit k for number k.
 pub struct Past {
     pub level: Level,
     pub rights: u64,
     pub firms: u64,
+    pub counted: u64,
 }
 
 // A person's level after a folder of a level, which lowers it if it was read.
@@ -91,6 +94,14 @@ fn is_untouched(seen: bool, changed: bool, steps: u16) -> bool
     steps == 0
 }
 
+// The firms that the wall counts, with the firm of one folder more, which counts if the folder is not public. The mark itself is shifted to
+// the firm's place: in the pass, a choice of two sets took longer.
+fn counted_with(public: bool, counted: u64, firm: usize) -> u64
+    ensures { λ r. ⌜ r ≡ withBitIf (not public) counted (firm % 64) ⌝ }
+{
+    counted | (bits::one_if(!public) << (firm & 63))
+}
+
 // What person s did up to folder o, whose entry is `folder` and which was read and written or not, if `before` is what the person did on
 // the folders before it.
 fn past_after(
@@ -121,6 +132,7 @@ fn past_after(
         level: level_if(seen, level, folder_level),
         rights: before.rights | rights_of(seen, changed, steps, folder.kind as usize),
         firms: bits::with_bit64(before.firms, folder.firm as usize),
+        counted: counted_with(folder.public, before.counted, folder.firm as usize),
     }
 }
 
@@ -194,6 +206,7 @@ pub fn past_of(t: &Words, h: &[u8], s: usize) -> Past
         level: first,
         rights: 0,
         firms: 0,
+        counted: 0,
     };
     let low = past_over(t, h, s, 0, none);
     let past = past_over(t, h, s, 64, low);
@@ -203,6 +216,7 @@ pub fn past_of(t: &Words, h: &[u8], s: usize) -> Past
         level: level,
         rights: rights,
         firms: past.firms,
+        counted: past.counted,
     }
 }
 

@@ -1,19 +1,20 @@
--- What a set of granted requests says of persons and folders: who accessed what, which requests a person made, which steps were done.
+-- What a set of granted requests says of persons and folders: who accessed what, which firms that opens and the wall counts, which requests
+-- a person made, which steps were done.
 -- Each bounded search finds exactly the requests of the set, since a declared request has numbers within the bounds.
 use Prim.Native.Nat.{ℕ, _<_}
-use mathlib.Core.Path.{_≡_, refl}
+use mathlib.Core.Path.{_≡_, refl, sym, ap}
 use mathlib.Core.Logic.{⊎-elim}
-use mathlib.Core.Bool.{Bool, true, _&&_, _||_}
-use lib.Dec.{leb, ltb}
-use borrow.Author.Tests.{ltb-true}
+use mathlib.Core.Bool.{Bool, true, not, _&&_, _||_}
+use lib.Dec.{eqb, leb, ltb}
+use borrow.Author.Tests.{ltb-true, eqb-true, eq-eqb, not-true}
 use Rattle.bits.specs.Bounded.{anyBelow}
 use Rattle.bits.proofs.Booleans.{and-left, and-right, and-both, or-cases, or-left, or-right}
 use Rattle.bits.proofs.Bounds.{any-some, some-any}
 use Rattle.policy.specs.declared.Tables.{Tables}
-use Rattle.policy.specs.Tables.{personDeclared, folderDeclared}
+use Rattle.policy.specs.Tables.{folderAt, personDeclared, folderDeclared}
 use Rattle.policy.specs.Request.{Request, read, write, start, step, subject, hasPlace}
-use Rattle.policy.specs.Rules.{declared, someRequest, did, accessed, done}
-use Rattle.policy.specs.Published.{Access, InHistory, Accessed, Applied}
+use Rattle.policy.specs.Rules.{declared, someRequest, firmOfSome, did, accessed, opened, counts, counted, done}
+use Rattle.policy.specs.Published.{NotPublic, Access, InHistory, Accessed, Applied}
 use Rattle.policy.proofs.Requests.{person-below, folder-below, declared-person, declared-step}
 
 -- the folder of an access is declared
@@ -65,6 +66,20 @@ request-some p (step s n o) l h =
     (or-right (p (read s o) || p (write s o)) _
     (some-any 16 (λ q. p (step s q o)) n (ltb-true n 16 (and-right (ltb s 64) _ (and-left (ltb s 64 && ltb n 16) _ l))) h)))
 
+-- ---- a firm of some folder
+
+pub firm-some : (t : Tables) (p : ℕ → Bool) (f : ℕ) → firmOfSome t p f ≡ true
+    → (o : ℕ) × (o < 128) × (p o ≡ true) × (f ≡ folderAt t o .firm)
+unfolding firmOfSome
+firm-some t p f e =
+    let (o, l, w) = any-some 128 (λ o. p o && eqb (folderAt t o .firm) f) e in
+    (o, l, and-left (p o) _ w, sym (eqb-true _ _ (and-right (p o) _ w)))
+
+pub some-firm : (t : Tables) (p : ℕ → Bool) (f o : ℕ) → o < 128 → p o ≡ true → f ≡ folderAt t o .firm → firmOfSome t p f ≡ true
+unfolding firmOfSome
+some-firm t p f o l h e =
+    some-any 128 (λ o. p o && eqb (folderAt t o .firm) f) o l (and-both _ _ h (eq-eqb _ _ (sym e)))
+
 module _ (t : Tables) (H : Request → Bool) where
   pub did-in : (r : Request) → did t H r ≡ true → InHistory t H r
   unfolding did
@@ -102,6 +117,36 @@ module _ (t : Tables) (H : Request → Bool) where
 
   pub accessed-below : (s o : ℕ) → Accessed t H s o → o < 128
   accessed-below s o w = folder-below t o (access-declared t (w .0) s o (w .1 .0) (w .2))
+
+  pub opened-some : (s f : ℕ) → opened t H s f ≡ true → (o : ℕ) × Accessed t H s o × (f ≡ folderAt t o .firm)
+  unfolding opened
+  opened-some s f e = let (o, l, a, i) = firm-some t (accessed t H s) f e in (o, accessed-some s o a, i)
+
+  pub some-opened : (s f o : ℕ) → Accessed t H s o → f ≡ folderAt t o .firm → opened t H s f ≡ true
+  unfolding opened
+  some-opened s f o a = some-firm t (accessed t H s) f o (accessed-below s o a) (some-accessed s o a)
+
+  -- ---- what the wall counts
+
+  pub counts-some : (s o : ℕ) → counts t H s o ≡ true → Accessed t H s o × NotPublic t o
+  unfolding counts
+  counts-some s o e =
+      (accessed-some s o (and-left (accessed t H s o) _ e), not-true _ (and-right (accessed t H s o) _ e))
+
+  pub some-counts : (s o : ℕ) → Accessed t H s o → NotPublic t o → counts t H s o ≡ true
+  unfolding counts
+  some-counts s o a n = and-both _ _ (some-accessed s o a) (ap not n)
+
+  pub counted-some : (s f : ℕ) → counted t H s f ≡ true → (o : ℕ) × Accessed t H s o × NotPublic t o × (f ≡ folderAt t o .firm)
+  unfolding counted
+  counted-some s f e =
+      let (o, l, c, i) = firm-some t (counts t H s) f e in
+      let (a, n) = counts-some s o c in
+      (o, a, n, i)
+
+  pub some-counted : (s f o : ℕ) → Accessed t H s o → NotPublic t o → f ≡ folderAt t o .firm → counted t H s f ≡ true
+  unfolding counted
+  some-counted s f o a n = some-firm t (counts t H s) f o (accessed-below s o a) (some-counts s o a n)
 
   -- ---- steps
 

@@ -1,17 +1,18 @@
 -- Tables of their type that pass the test are exactly those that some rulebook of bytes loads to. A book for such tables is written entry
--- by entry: the rules, then each declared firm, person, folder and role, then each pair; each of these records passes its checks.
+-- by entry: the rules, then each declared firm, person and folder, each mark of a public folder, each declared role, then each pair; each
+-- of these records passes its checks.
 use Prim.Native.Nat.{ℕ, _^_, _<_}
 use native.Mathlib.Omega.{arith}
 use mathlib.Core.Path.{_≡_, refl, sym, ap, _∙_}
 use mathlib.Core.Logic.{⊎-elim, _≢_}
 use mathlib.Core.Bool.{Bool, true, false, _&&_}
-use mathlib.Core.List.{List}
+use mathlib.Core.List.{List, map}
 use lib.Dec.{leb, ltb}
-use lib.ListN.{length, getD, set, replicate}
+use lib.ListN.{length, getD, set, replicate, length-map, List·getD-map}
 use lib.Seq.{set-getD, set-set, getD-set-same}
-use borrow.Author.Tests.{le-leb, ltb-true, ne-eqb}
+use borrow.Author.Tests.{le-leb, lt-ltb, ltb-true, ne-eqb}
 use Rattle.bits.specs.Bits.{bit, withBit}
-use Rattle.bits.proofs.Booleans.{and-left, and-both, false-elim}
+use Rattle.bits.proofs.Booleans.{and-left, and-both, decide, false-elim}
 use Rattle.policy.specs.declared.Firm.{Firm}
 use Rattle.policy.specs.declared.Person.{Person}
 use Rattle.policy.specs.declared.Folder.{Folder}
@@ -40,10 +41,13 @@ use Rattle.policy.specs.Rulebook.{
   folder,
   role,
   pair,
+  public,
   inRange,
   declaredBefore,
   firmStands,
+  folderStands,
   entersCreate,
+  madePublic,
   declare,
   firmGiven,
   personGiven,
@@ -52,10 +56,11 @@ use Rattle.policy.specs.Rulebook.{
 }
 use Rattle.policy.specs.Given.{OfType, Gives}
 use Rattle.policy.proofs.Sound.{Fits}
+use Rattle.policy.proofs.FolderParts.{unmarked}
 use Rattle.policy.proofs.Loads.{loaded-given}
 use Rattle.policy.proofs.Circles.{member-at}
-use Rattle.policy.proofs.GivenEntries.{Given, given-entries, firm-cases, person-cases, folder-cases, role-cases}
-use Rattle.policy.proofs.Filling.{fill, fill-set}
+use Rattle.policy.proofs.GivenEntries.{Given, given-entries, firm-cases, person-cases, folder-cases, role-cases, undeclared-unmarked}
+use Rattle.policy.proofs.Filling.{fill, change, fill-set}
 use Rattle.policy.proofs.Writing.{kindOf}
 use Rattle.policy.proofs.Reached.{Reached, reached-first, reached-next, reached-loads}
 use Rattle.policy.proofs.Widths.{loaded-type}
@@ -76,7 +81,7 @@ not-second false b h = refl
 firm-next : (m : ℕ) (done : List Firm) (ps : List Person) (os : List Folder) (ks : List Role) (ss : List ℕ)
     → Reached (tables m done ps os ks ss) → (k : ℕ) → k < 64 → getD done k noFirm ≡ noFirm
     → (e : Firm) → firmGiven e ≡ true → Reached (tables m (set done k e) ps os ks ss)
-unfolding declare inRange declaredBefore firmStands entersCreate Fits kindOf firmDeclared
+unfolding declare inRange declaredBefore firmStands folderStands entersCreate Fits kindOf firmDeclared
 firm-next m done ps os ks ss r k l b e g =
     ⊎-elim (λ blank. rw (no-change done k e noFirm b blank) r)
     (λ c.
@@ -85,7 +90,8 @@ firm-next m done ps os ks ss r k l b e g =
     (record {
       range = and-both (leb k 63) _ (le-leb k 63 (omega arith)) (c .1);
       fresh = not-second (ltb k 64) _ (ap (λ (f : Firm). f .declared) b);
-      stands = refl;
+      firmEarlier = refl;
+      folderEarlier = refl;
       notCreate = refl;
     })))
     (firm-cases e g)
@@ -93,7 +99,7 @@ firm-next m done ps os ks ss r k l b e g =
 person-next : (m : ℕ) (fs : List Firm) (done : List Person) (os : List Folder) (ks : List Role) (ss : List ℕ)
     → Reached (tables m fs done os ks ss) → (k : ℕ) → k < 64 → getD done k noPerson ≡ noPerson
     → (e : Person) → personGiven e ≡ true → e .level .0 < 2 ^ 16 → Reached (tables m fs (set done k e) os ks ss)
-unfolding declare inRange declaredBefore firmStands entersCreate Fits kindOf personDeclared
+unfolding declare inRange declaredBefore firmStands folderStands entersCreate Fits kindOf personDeclared
 person-next m fs done os ks ss r k l b e g w =
     ⊎-elim (λ blank. rw (no-change done k e noPerson b blank) r)
     (λ (c : e ≡ record { declared = true; level = e .level }).
@@ -102,35 +108,66 @@ person-next m fs done os ks ss r k l b e g w =
     (record {
       range = le-leb k 63 (omega arith);
       fresh = not-second (ltb k 64) _ (ap (λ (f : Person). f .declared) b);
-      stands = refl;
+      firmEarlier = refl;
+      folderEarlier = refl;
       notCreate = refl;
     })))
     (person-cases e g)
 
+-- the entry without its mark; the mark has a record of its own
 folder-next : (t : Tables) (m : ℕ) (ps : List Person) (done : List Folder) (ks : List Role) (ss : List ℕ)
     → Reached (tables m (t .firms) ps done ks ss) → (k : ℕ) → k < 128 → getD done k noFolder ≡ noFolder
-    → (e : Folder) → folderGiven t e ≡ true → e .level .0 < 2 ^ 16 → Reached (tables m (t .firms) ps (set done k e) ks ss)
-unfolding declare inRange declaredBefore firmStands entersCreate Fits kindOf folderDeclared firmDeclared
+    → (e : Folder) → folderGiven t e ≡ true → e .level .0 < 2 ^ 16 → Reached (tables m (t .firms) ps (set done k (unmarked e)) ks ss)
+unfolding declare inRange declaredBefore firmStands folderStands entersCreate Fits kindOf folderDeclared firmDeclared
 folder-next t m ps done ks ss r k l b e g w =
-    ⊎-elim (λ blank. rw (no-change done k e noFolder b blank) r)
+    ⊎-elim
+    (λ (blank : e ≡ noFolder).
+    let bare : unmarked e ≡ noFolder = ap (λ (x : Folder). unmarked x) blank in
+    rw (no-change done k (unmarked e) noFolder b bare) r)
     (λ c.
     let f = ltb-true (e .firm) 64 (and-left (ltb (e .firm) 64) _ (c .1)) in
-    rw (c .0)
+    rw (ap unmarked (c .0))
     (reached-next (tables m (t .firms) ps done ks ss) (folder k (e .firm) (e .kind) (e .level .0)) r (omega arith) w
     (record {
       range =
           and-both (leb k 127 && leb (e .firm) 63) _
           (and-both (leb k 127) _ (le-leb k 127 (omega arith)) (le-leb (e .firm) 63 (omega arith))) (c .2);
       fresh = not-second (ltb k 128) _ (ap (λ (f : Folder). f .declared) b);
-      stands = c .1;
+      firmEarlier = c .1;
+      folderEarlier = refl;
       notCreate = refl;
     })))
     (folder-cases t e g)
 
+-- the mark of a folder whose entry stands without it
+public-next : (t : Tables) (m : ℕ) (ps : List Person) (done : List Folder) (ks : List Role) (ss : List ℕ)
+    → Reached (tables m (t .firms) ps done ks ss) → (k : ℕ) → k < 128 → (e : Folder) → getD done k noFolder ≡ unmarked e
+    → folderGiven t e ≡ true → Reached (tables m (t .firms) ps (set done k e) ks ss)
+unfolding declare inRange declaredBefore firmStands folderStands entersCreate Fits kindOf folderDeclared madePublic
+public-next t m ps done ks ss r k l e b g =
+    ⊎-elim
+    (λ (mark : e .public ≡ true).
+    let new : madePublic (getD done k noFolder) ≡ e = ap madePublic b ∙ rw (← mark) in
+    let known : e .declared ≡ true =
+    ⊎-elim (λ y. y) (λ n. absurd (false-elim _ (undeclared-unmarked t e g n) mark)) (decide (e .declared)) in
+    rw (ap (set done k) new) at
+    (reached-next (tables m (t .firms) ps done ks ss) (public k) r (omega arith) tt
+    (record {
+      range = le-leb k 127 (omega arith);
+      fresh = ap (λ (x : Folder). x .public) b;
+      firmEarlier = refl;
+      folderEarlier = and-both (ltb k 128) _ (lt-ltb k 128 l) (ap (λ (x : Folder). x .declared) b ∙ known);
+      notCreate = refl;
+    })))
+    (λ (none : e .public ≡ false).
+    let same : e ≡ getD done k noFolder = rw (b, ← none) in
+    rw (ap (set done k) same ∙ set-getD done k noFolder) r)
+    (decide (e .public))
+
 role-next : (m : ℕ) (fs : List Firm) (ps : List Person) (os : List Folder) (done : List Role) (ss : List ℕ)
     → Reached (tables m fs ps os done ss) → (k : ℕ) → k < 32 → getD done k noRole ≡ noRole
     → (e : Role) → roleGiven e ≡ true → e .rights < 2 ^ 64 → Reached (tables m fs ps os (set done k e) ss)
-unfolding declare inRange declaredBefore firmStands entersCreate Fits kindOf roleDeclared
+unfolding declare inRange declaredBefore firmStands folderStands entersCreate Fits kindOf roleDeclared
 role-next m fs ps os done ss r k l b e g w =
     ⊎-elim (λ blank. rw (no-change done k e noRole b blank) r)
     (λ (c : e ≡ record { declared = true; rights = e .rights }).
@@ -139,7 +176,8 @@ role-next m fs ps os done ss r k l b e g w =
     (record {
       range = le-leb k 31 (omega arith);
       fresh = not-second (ltb k 32) _ (ap (λ (f : Role). f .declared) b);
-      stands = refl;
+      firmEarlier = refl;
+      folderEarlier = refl;
       notCreate = refl;
     })))
     (role-cases e g)
@@ -147,7 +185,7 @@ role-next m fs ps os done ss r k l b e g w =
 pair-next : (m : ℕ) (fs : List Firm) (ps : List Person) (os : List Folder) (ks : List Role) (done : List ℕ)
     → (p q x : ℕ) → p < 16 → q < 16 → length done ≡ 16 → q ≢ 0 → bit x q ≡ false
     → Reached (tables m fs ps os ks (set done p x)) → Reached (tables m fs ps os ks (set done p (withBit x q)))
-unfolding declare inRange declaredBefore firmStands entersCreate Fits kindOf enables
+unfolding declare inRange declaredBefore firmStands folderStands entersCreate Fits kindOf enables
 pair-next m fs ps os ks done p q x l h n z b r =
     let here : getD (set done p x) p 0 ≡ x = getD-set-same done p x 0 (omega arith) in
     let same : set (set done p x) p (withBit (getD (set done p x) p 0) q) ≡ set done p (withBit x q) =
@@ -157,7 +195,8 @@ pair-next m fs ps os ks done p q x l h n z b r =
     (record {
       range = and-both (leb p 15) _ (le-leb p 15 (omega arith)) (le-leb q 15 (omega arith));
       fresh = rw here b;
-      stands = refl;
+      firmEarlier = refl;
+      folderEarlier = refl;
       notCreate = ne-eqb q 0 z;
     }))
 
@@ -182,16 +221,34 @@ module _ (t : Tables) (o : OfType t) (g : Given t) where
       (o .personLevels _ (member-at (t .persons) k noPerson l)))
       64 (o .persons)
 
+  -- the folders, each without its mark
+  abbrev bare : List Folder
+  bare = map unmarked (t .folders)
+
+  bare-at : (k : ℕ) → getD bare k noFolder ≡ unmarked (folderAt t k)
+  bare-at k = List·getD-map unmarked (t .folders) k noFolder
+
   folders-reached : (ps : List Person) (ks : List Role) (ss : List ℕ)
       → Reached (tables (t .mask) (t .firms) ps (replicate 128 noFolder) ks ss)
-      → Reached (tables (t .mask) (t .firms) ps (t .folders) ks ss)
+      → Reached (tables (t .mask) (t .firms) ps bare ks ss)
   folders-reached ps ks ss =
-      fill noFolder (λ l. Reached (tables (t .mask) (t .firms) ps l ks ss)) (t .folders)
+      fill noFolder (λ l. Reached (tables (t .mask) (t .firms) ps l ks ss)) bare
+      (λ k done l n b r.
+      let size : k < length (t .folders) = rw (length-map (t .folders) unmarked) at l in
+      let m : k < 128 = omega (arith, o .folders) in
+      rw (bare-at k)
+      (folder-next t (t .mask) ps done ks ss r k m b (folderAt t k) (g .folders k m)
+      (o .folderLevels _ (member-at (t .folders) k noFolder size))))
+      128 (length-map (t .folders) unmarked ∙ o .folders)
+
+  marks-reached : (ps : List Person) (ks : List Role) (ss : List ℕ)
+      → Reached (tables (t .mask) (t .firms) ps bare ks ss) → Reached (tables (t .mask) (t .firms) ps (t .folders) ks ss)
+  marks-reached ps ks ss =
+      change noFolder (λ l. Reached (tables (t .mask) (t .firms) ps l ks ss)) bare (t .folders)
       (λ k done l n b r.
       let m : k < 128 = omega (arith, o .folders) in
-      folder-next t (t .mask) ps done ks ss r k m b (folderAt t k) (g .folders k m)
-      (o .folderLevels _ (member-at (t .folders) k noFolder l)))
-      128 (o .folders)
+      public-next t (t .mask) ps done ks ss r k m (folderAt t k) (b ∙ bare-at k) (g .folders k m))
+      (length-map (t .folders) unmarked)
 
   roles-reached : (fs : List Firm) (ps : List Person) (os : List Folder) (ss : List ℕ)
       → Reached (tables (t .mask) fs ps os (replicate 32 noRole) ss) → Reached (tables (t .mask) fs ps os (t .roles) ss)
@@ -221,10 +278,11 @@ module _ (t : Tables) (o : OfType t) (g : Given t) where
   given-reached =
       steps-reached (t .firms) (t .persons) (t .folders) (t .roles)
       (roles-reached (t .firms) (t .persons) (t .folders) (replicate 16 0)
+      (marks-reached (t .persons) (replicate 32 noRole) (replicate 16 0)
       (folders-reached (t .persons) (replicate 32 noRole) (replicate 16 0)
       (persons-reached (t .firms) (replicate 128 noFolder) (replicate 32 noRole) (replicate 16 0)
       (firms-reached (replicate 64 noPerson) (replicate 128 noFolder) (replicate 32 noRole) (replicate 16 0)
-      (reached-first (t .mask) (g .mask))))))
+      (reached-first (t .mask) (g .mask)))))))
 
 pub gives : Gives
 gives t = (

@@ -21,11 +21,14 @@ use Rattle.policy.specs.Rulebook.{
   folder,
   role,
   pair,
+  public,
+  lastKind,
   bodyLength,
   recordOf,
   inRange,
   declaredBefore,
   firmStands,
+  folderStands,
   entersCreate,
   recordChecks,
   declare,
@@ -46,7 +49,8 @@ use Rattle.policy.proofs.Outcomes.{Outcome, no-byte, refused, next, end
 pub record Passes (t : Tables) (r : Record) : Type 0 where
   pub range : inRange r ≡ true
   pub fresh : declaredBefore t r ≡ false
-  pub stands : firmStands t r ≡ true
+  pub firmEarlier : firmStands t r ≡ true
+  pub folderEarlier : folderStands t r ≡ true
   pub notCreate : entersCreate r ≡ false
 
 pub permitted-passes : (at : ℕ) (t : Tables) (kind : ℕ) (body : List ℕ) → AllPermit (recordChecks at t kind body)
@@ -57,8 +61,9 @@ permitted-passes at t kind body a =
     record {
       range = permit-first four;
       fresh = not-true _ (permit-first (permit-rest four));
-      stands = permit-first (permit-rest (permit-rest four));
-      notCreate = not-true _ (permit-first (permit-rest (permit-rest (permit-rest four))));
+      firmEarlier = permit-first (permit-rest (permit-rest four));
+      folderEarlier = permit-first (permit-rest (permit-rest (permit-rest four)));
+      notCreate = not-true _ (permit-first (permit-rest (permit-rest (permit-rest (permit-rest four)))));
     }
 
 test-self : (b : Bool) → Bool·beq b b ≡ true
@@ -71,15 +76,16 @@ same-test true false e = sym e
 same-test false true e = e
 same-test false false e = refl
 
-pub passes-permitted : (at : ℕ) (t : Tables) (kind : ℕ) (body : List ℕ) → kind ≤ 6 → eqb kind 1 ≡ eqb at 0
+pub passes-permitted : (at : ℕ) (t : Tables) (kind : ℕ) (body : List ℕ) → kind ≤ lastKind → eqb kind 1 ≡ eqb at 0
     → bodyLength kind ≤ length body → Passes t (recordOf kind body) → AllPermit (recordChecks at t kind body)
 unfolding recordChecks
 passes-permitted at t kind body k first long p =
-    permit-more (le-leb kind 6 k)
+    permit-more (le-leb kind lastKind k)
     (permit-more (rw first (test-self (eqb at 0)))
     (permit-more (le-leb (bodyLength kind) (length body) long)
     (permit-more (p .range)
-    (permit-more (ap not (p .fresh)) (permit-more (p .stands) (permit-more (ap not (p .notCreate)) permit-none))))))
+    (permit-more (ap not (p .fresh))
+    (permit-more (p .firmEarlier) (permit-more (p .folderEarlier) (permit-more (ap not (p .notCreate)) permit-none)))))))
 
 -- ---- the record of the rules stands first, and only there
 
@@ -91,6 +97,7 @@ isRules (person s level) = false
 isRules (folder o f kind level) = false
 isRules (role k rights) = false
 isRules (pair p q) = false
+isRules (public o) = false
 
 rules-kind : (kind : ℕ) (body : List ℕ) → isRules (recordOf kind body) ≡ eqb kind 1
 unfolding recordOf isRules
@@ -101,8 +108,9 @@ rules-kind (suc (suc (suc zero))) body = refl
 rules-kind (suc (suc (suc (suc zero)))) body = refl
 rules-kind (suc (suc (suc (suc (suc zero))))) body = refl
 rules-kind (suc (suc (suc (suc (suc (suc zero)))))) body = refl
-rules-kind (suc (suc (suc (suc (suc (suc (suc kind))))))) body =
-    sym (ne-eqb (suc (suc (suc (suc (suc (suc (suc kind))))))) 1 (omega arith))
+rules-kind (suc (suc (suc (suc (suc (suc (suc zero))))))) body = refl
+rules-kind (suc (suc (suc (suc (suc (suc (suc (suc kind)))))))) body =
+    sym (ne-eqb (suc (suc (suc (suc (suc (suc (suc (suc kind)))))))) 1 (omega arith))
 
 kind-first : (at : ℕ) (t : Tables) (kind : ℕ) (body : List ℕ) → AllPermit (recordChecks at t kind body) → eqb kind 1 ≡ eqb at 0
 unfolding recordChecks

@@ -108,6 +108,14 @@ module _ (t : Tables) (ok : given t ≡ true) (o : ℕ) (known : folderDeclared 
   folder-kind =
       let l = leb-true (folderAt t o .kind) 15 (and-right (firmDeclared t (folderAt t o .firm)) _ folder-given) in omega arith
 
+-- ---- an undeclared folder is not public
+
+pub undeclared-unmarked : (t : Tables) (e : Folder) → folderGiven t e ≡ true → e .declared ≡ false → e .public ≡ false
+unfolding folderGiven
+undeclared-unmarked t e g d =
+    let h : eqb (e .firm) 0 && eqb (e .kind) 0 && eqb (e .level .0) 0 && not (e .public) ≡ true = rw d at g in
+    not-true (e .public) (and-right (eqb (e .firm) 0 && eqb (e .kind) 0 && eqb (e .level .0) 0) _ h)
+
 -- ---- an entry is blank, or declared and in range
 
 pub firm-cases : (e : Firm) → firmGiven e ≡ true
@@ -135,7 +143,7 @@ person-cases e g =
 
 pub folder-cases : (t : Tables) (e : Folder) → folderGiven t e ≡ true
     → (e ≡ noFolder)
-    ⊎ ((e ≡ record { declared = true; firm = e .firm; kind = e .kind; level = e .level })
+    ⊎ ((e ≡ record { declared = true; firm = e .firm; kind = e .kind; level = e .level; public = e .public })
     × (firmDeclared t (e .firm) ≡ true) × (leb (e .kind) 15 ≡ true))
 unfolding folderGiven
 folder-cases t e g =
@@ -144,12 +152,16 @@ folder-cases t e g =
     let h : firmDeclared t (e .firm) && leb (e .kind) 15 ≡ true = rw d at g in
     inr (rw (← d), and-left (firmDeclared t (e .firm)) _ h, and-right (firmDeclared t (e .firm)) _ h))
     (λ d.
-    let h : eqb (e .firm) 0 && eqb (e .kind) 0 && eqb (e .level .0) 0 ≡ true = rw d at g in
-    let two = and-left (eqb (e .firm) 0 && eqb (e .kind) 0) _ h in
+    let h : eqb (e .firm) 0 && eqb (e .kind) 0 && eqb (e .level .0) 0 && not (e .public) ≡ true = rw d at g in
+    let three = and-left (eqb (e .firm) 0 && eqb (e .kind) 0 && eqb (e .level .0) 0) _ h in
+    let two = and-left (eqb (e .firm) 0 && eqb (e .kind) 0) _ three in
     let x = eqb-true (e .firm) 0 (and-left (eqb (e .firm) 0) _ two) in
     let y = eqb-true (e .kind) 0 (and-right (eqb (e .firm) 0) _ two) in
-    let z = eqb-true (e .level .0) 0 (and-right (eqb (e .firm) 0 && eqb (e .kind) 0) _ h) in
-    let q : record { declared = e .declared; firm = e .firm; kind = e .kind; level = record { 0 = e .level .0 } } ≡ noFolder = cc in
+    let z = eqb-true (e .level .0) 0 (and-right (eqb (e .firm) 0 && eqb (e .kind) 0) _ three) in
+    let m = undeclared-unmarked t e g d in
+    let q :
+    record { declared = e .declared; firm = e .firm; kind = e .kind; level = record { 0 = e .level .0 }; public = e .public } ≡ noFolder =
+    cc in
     inl q)
     (decide (e .declared))
 

@@ -22,6 +22,7 @@ use Rattle.policy.specs.Tables.{
   personDeclared,
   folderDeclared,
   roleDeclared,
+  isPublic,
 }
 use Rattle.policy.specs.Rulebook.{
   Record,
@@ -32,20 +33,23 @@ use Rattle.policy.specs.Rulebook.{
   folder,
   role,
   pair,
+  public,
   declaredBefore,
   firmStands,
+  folderStands,
   declare,
   hasCircle,
   hasLoose,
 }
-use Rattle.policy.specs.Loading.{DeclaredBefore, NoFirmBefore, Pair, Circle, Loose}
+use Rattle.policy.specs.Loading.{DeclaredBefore, NoFirmBefore, NoFolderBefore, Pair, Circle, Loose}
 use Rattle.policy.proofs.Declaring.{Passes}
 use Rattle.policy.proofs.Answers.{Refuses, refuses-not}
 use Rattle.policy.proofs.Sound.{Sound, start-sound, declare-sound}
 use Rattle.policy.proofs.Loads.{AnyWidth, any-fits, sound-sets}
 use Rattle.policy.proofs.Circles.{way-map, circle-way, way-circle}
 use Rattle.policy.proofs.Loose.{loose-map, loose-some, some-loose}
-use Rattle.policy.proofs.Parts.{Part, firmPart, personPart, folderPart, rolePart, pairPart, declared-left, entry-of}
+use Rattle.policy.proofs.Parts.{Part, firmPart, personPart, rolePart, pairPart, declared-left, entry-of}
+use Rattle.policy.proofs.FolderParts.{folderPart, publicPart}
 
 pub record Known (at : ℕ) (before : List Record) (t : Tables) : Type 1 where
   -- the offset is 0 before the first record alone
@@ -74,10 +78,10 @@ known-next {at} {before} {t} k r p next z =
         λ e.
             ⊎-elim (λ w. (w .0, List·Memᴰ·head (sym (w .1))))
             (λ same. let w = k .entries part i .0 (ap (part .isDeclared) (sym same) ∙ e) in (w .0, List·Memᴰ·tail (w .1)))
-            (part .after t r i),
+            (part .after t r i (k .sound) p),
         λ w.
             ⊎-elim (λ e. ap (part .isDeclared) (entry-of part t r i (w .0) e (k .sound) p) ∙ part .marked (w .0))
-            (λ m. let h = k .entries part i .1 (w .0, m) in ap (part .isDeclared) (declared-left part t r i p h) ∙ h)
+            (λ m. let h = k .entries part i .1 (w .0, m) in ap (part .isDeclared) (declared-left part t r i (k .sound) p h) ∙ h)
             (List·Memᴰ·cases-cons (w .1)),
       );
     }
@@ -116,6 +120,9 @@ module _ {at : ℕ} {before : List Record} {t : Tables} (k : Known at before t) 
   pair-known : (p q : ℕ) → (enables t p q ≡ true) ↔ Pair before p q
   pair-known p q = (λ e. k .entries pairPart (p, q) .0 e .1, λ m. k .entries pairPart (p, q) .1 (tt, m))
 
+  public-known : (o : ℕ) → (isPublic t o ≡ true) ↔ List·Memᴰ (public o) before
+  public-known o = (λ e. k .entries publicPart o .0 e .1, λ m. k .entries publicPart o .1 (tt, m))
+
   pub before-known : (r : Record) → (declaredBefore t r ≡ true) ↔ DeclaredBefore before r
   unfolding declaredBefore
   before-known end = (false≢true, absurd)
@@ -126,6 +133,7 @@ module _ {at : ℕ} {before : List Record} {t : Tables} (k : Known at before t) 
       Iff·trans (folder-known o) (λ w. (w .0 .0, w .0 .1, w .0 .2, w .1), λ w. ((w .0, w .1, w .2), w .3))
   before-known (role n rights) = role-known n
   before-known (pair p q) = pair-known p q
+  before-known (public o) = public-known o
 
   pub firm-stood : (r : Record) → Refuses (firmStands t r) (NoFirmBefore before r)
   unfolding firmStands
@@ -137,6 +145,24 @@ module _ {at : ℕ} {before : List Record} {t : Tables} (k : Known at before t) 
       let w = refuses-not (firm-known f) in (λ e class m. w .0 e (class, m), λ none. w .1 (λ m. none (m .0) (m .1)))
   firm-stood (role n rights) = (λ e. false≢true (sym e), absurd)
   firm-stood (pair p q) = (λ e. false≢true (sym e), absurd)
+  firm-stood (public o) = (λ e. false≢true (sym e), absurd)
+
+  pub folder-stood : (r : Record) → Refuses (folderStands t r) (NoFolderBefore before r)
+  unfolding folderStands
+  folder-stood end = (λ e. absurd (false≢true (sym e)), λ w. cc (w .1))
+  folder-stood (rules mask) = (λ e. absurd (false≢true (sym e)), λ w. cc (w .1))
+  folder-stood (firm f class) = (λ e. absurd (false≢true (sym e)), λ w. cc (w .1))
+  folder-stood (person s level) = (λ e. absurd (false≢true (sym e)), λ w. cc (w .1))
+  folder-stood (folder o f kind level) = (λ e. absurd (false≢true (sym e)), λ w. cc (w .1))
+  folder-stood (role n rights) = (λ e. absurd (false≢true (sym e)), λ w. cc (w .1))
+  folder-stood (pair p q) = (λ e. absurd (false≢true (sym e)), λ w. cc (w .1))
+  folder-stood (public o) =
+      let known = refuses-not (folder-known o) in (
+        λ e. (o, refl, λ f kind level m. known .0 e ((f, kind, level), m)),
+        λ w.
+            let same : o ≡ w .0 = cc (w .1) in
+            known .1 (λ m. w .2 (m .0 .0) (m .0 .1) (m .0 .2) (rw same at (m .1))),
+      )
 
   pub circle-known : (hasCircle t ≡ true) ↔ Circle before
   circle-known = (

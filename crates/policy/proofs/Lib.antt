@@ -21,6 +21,7 @@ pub mod Declaring
 pub mod Sound
 pub mod Loads
 pub mod Parts
+pub mod FolderParts
 pub mod Holding
 pub mod StandsLaws
 pub mod Loose
@@ -35,6 +36,7 @@ pub mod GivenEntries
 pub mod Books
 pub mod CallCauses
 pub mod Standings
+pub mod PublicFolders
 pub mod Blanks
 pub mod SetPlaces
 pub mod Agreement

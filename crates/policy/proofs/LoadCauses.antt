@@ -16,6 +16,7 @@ use Rattle.policy.specs.Tables.{emptyTables}
 use Rattle.policy.specs.Rulebook.{
   Record,
   end,
+  lastKind,
   bodyLength,
   recordOf,
   recordChecks,
@@ -105,7 +106,7 @@ turn (refused {at = at} {kind = kind} {n = n} {body = body} {t = t} r) k =
     })
 turn (next {at = at} {kind = kind} {body = body} {t = t} a z o) k =
     let l = leb-true (bodyLength kind) (length body) (permit-first (permit-rest (permit-rest a))) in
-    let here = whole-stands kind body (leb-true kind 6 (permit-first a)) l in
+    let here = whole-stands kind body (leb-true kind lastKind (permit-first a)) l in
     inr (record {
       read = recordOf kind body;
       rest = drop (bodyLength kind) body;

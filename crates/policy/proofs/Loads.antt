@@ -18,6 +18,7 @@ use Rattle.policy.specs.Rulebook.{
   folder,
   role,
   pair,
+  public,
   hasCircle,
   hasLoose,
   loadBook,
@@ -77,6 +78,7 @@ any-fits (person s level) = tt
 any-fits (folder o f kind level) = tt
 any-fits (role k rights) = tt
 any-fits (pair p q) = tt
+any-fits (public o) = tt
 
 any-sound : (book : List ℕ) → loadBook book .number ≡ 0 → Sound AnyWidth (loadBook book .tables)
 any-sound book e = loaded-sound AnyWidth (λ w. tt) book e (λ r m. any-fits r)

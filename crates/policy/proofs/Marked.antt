@@ -21,8 +21,10 @@ use Rattle.policy.specs.Rulebook.{
   inRange,
   declaredBefore,
   firmStands,
+  folderStands,
   entersCreate,
   recordChecks,
+  madePublic,
   declare,
   reaches,
   hasCircle,
@@ -40,7 +42,9 @@ use Rattle.policy.specs.Rules.{
   right,
   did,
   accessed,
-  opened,
+  firmOfSome,
+  counts,
+  counted,
   otherClass,
   wallAccess,
   wall,
@@ -74,10 +78,11 @@ pub marked-cases : MarkedCases
 unfolding
     bit withBit anyBelow allBelow foldBelow rankOf compartmentsOf levelOf atMost meetOf ladder emptyTables enables
     firmDeclared personDeclared folderDeclared roleDeclared classOf inForce bodyLength littleEndian recordOf inRange
-    declaredBefore firmStands entersCreate recordChecks declare reaches hasCircle isLoose hasLoose endChecks refusedBook ended
-    loadFrom loadBook subject two three requestOf recordLength same member declared right did accessed opened otherClass
-    wallAccess wall loweredBy currentLevel someRequest used roleCovers roles done leadsTo pipelineStep pipeline lowWater restOf
-    requestChecks judgeOver addedIf judgeList afterRecord callsFrom callsOf grantedIn refusedIn wallAnswer lowWaterAnswer withTotals
+    declaredBefore firmStands folderStands entersCreate recordChecks madePublic declare reaches hasCircle isLoose hasLoose endChecks
+    refusedBook ended loadFrom loadBook subject two three requestOf recordLength same member declared right did accessed firmOfSome
+    counts counted otherClass wallAccess wall loweredBy currentLevel someRequest used roleCovers roles done leadsTo pipelineStep
+    pipeline lowWater restOf requestChecks judgeOver addedIf judgeList afterRecord callsFrom callsOf grantedIn refusedIn wallAnswer
+    lowWaterAnswer withTotals
 marked-cases =
     record {
       P1 = refl;

@@ -1,5 +1,5 @@
--- The parts of the tables: firms, persons, folders, roles and pairs. A record that passes its checks gives one entry of its part, which
--- was not declared before, and leaves every other entry as it was; by the laws of arrays and of bits.
+-- The parts of the tables: firms, persons, roles and pairs; folders and their marks are in FolderParts. A record that passes its checks
+-- gives one entry of its part, which was not declared before, and leaves every other entry as it was; by the laws of arrays and of bits.
 use Prim.Native.Nat.{ℕ, _<_}
 use native.Mathlib.Omega.{arith}
 use mathlib.Core.Path.{_≡_, refl, ap, _∙_}
@@ -13,24 +13,20 @@ use Rattle.bits.proofs.Booleans.{and-left, or-left, decide, false-elim}
 use Rattle.bits.proofs.BitLaws.{bit-zero, bit-with}
 use Rattle.policy.specs.declared.Firm.{Firm}
 use Rattle.policy.specs.declared.Person.{Person}
-use Rattle.policy.specs.declared.Folder.{Folder}
 use Rattle.policy.specs.declared.Role.{Role}
 use Rattle.policy.specs.declared.Tables.{Tables}
 use Rattle.policy.specs.Tables.{
   emptyTables,
   noFirm,
   noPerson,
-  noFolder,
   noRole,
   firmAt,
   personAt,
-  folderAt,
   roleAt,
   enabledBy,
   enables,
   firmDeclared,
   personDeclared,
-  folderDeclared,
   roleDeclared,
 }
 use Rattle.policy.specs.Rulebook.{
@@ -42,6 +38,7 @@ use Rattle.policy.specs.Rulebook.{
   folder,
   role,
   pair,
+  public,
   inRange,
   declaredBefore,
   declare,
@@ -65,12 +62,14 @@ pub record Part : Type 1 where
   pub given :
       (t : Tables) (i : Index) (v : Value) → Sound AnyWidth t → Passes t (records i v)
       → entry (declare t (records i v)) i ≡ value v
-  pub after : (t : Tables) (r : Record) (i : Index) → ((v : Value) × (r ≡ records i v)) ⊎ (entry (declare t r) i ≡ entry t i)
+  pub after :
+      (t : Tables) (r : Record) (i : Index) → Sound AnyWidth t → Passes t r
+      → ((v : Value) × (r ≡ records i v)) ⊎ (entry (declare t r) i ≡ entry t i)
   pub blank : (i : Index) → isDeclared (entry emptyTables i) ≡ false
 
 -- ---- a record gives an entry, or leaves it as it was
 
-same-or-other : (i k : ℕ) → (i ≡ k) ⊎ (i ≢ k)
+pub same-or-other : (i k : ℕ) → (i ≡ k) ⊎ (i ≢ k)
 same-or-other i k = ⊎-elim (λ e. inl (eqb-true i k e)) (λ e. inr (eqb-false i k e)) (decide (eqb i k))
 
 module _ (t : Tables) where
@@ -84,6 +83,7 @@ module _ (t : Tables) where
   firm-after (folder o f kind level) i = inr refl
   firm-after (role k rights) i = inr refl
   firm-after (pair p q) i = inr refl
+  firm-after (public o) i = inr refl
 
   pub person-after : (r : Record) (i : ℕ) → ((level : ℕ) × (r ≡ person i level)) ⊎ (personAt (declare t r) i ≡ personAt t i)
   unfolding declare
@@ -95,18 +95,7 @@ module _ (t : Tables) where
   person-after (folder o f kind level) i = inr refl
   person-after (role k rights) i = inr refl
   person-after (pair p q) i = inr refl
-
-  pub folder-after : (r : Record) (i : ℕ)
-      → ((v : ℕ × ℕ × ℕ) × (r ≡ folder i (v .0) (v .1) (v .2))) ⊎ (folderAt (declare t r) i ≡ folderAt t i)
-  unfolding declare
-  folder-after end i = inr refl
-  folder-after (rules m) i = inr refl
-  folder-after (firm f class) i = inr refl
-  folder-after (person s level) i = inr refl
-  folder-after (folder o f kind level) i =
-      ⊎-elim (λ e. inl ((f, kind, level), rw e)) (λ d. inr (getD-set-other (t .folders) o i _ noFolder d)) (same-or-other i o)
-  folder-after (role k rights) i = inr refl
-  folder-after (pair p q) i = inr refl
+  person-after (public o) i = inr refl
 
   pub role-after : (r : Record) (i : ℕ) → ((rights : ℕ) × (r ≡ role i rights)) ⊎ (roleAt (declare t r) i ≡ roleAt t i)
   unfolding declare
@@ -118,6 +107,7 @@ module _ (t : Tables) where
   role-after (role k rights) i =
       ⊎-elim (λ e. inl (rights, rw e)) (λ d. inr (getD-set-other (t .roles) k i _ noRole d)) (same-or-other i k)
   role-after (pair p q) i = inr refl
+  role-after (public o) i = inr refl
 
   -- a pair changes one set, and puts one member into it
   other-member : (a b q : ℕ) → q ≢ b → bit (enabledBy (declare t (pair a b)) a) q ≡ bit (enabledBy t a) q
@@ -134,6 +124,7 @@ module _ (t : Tables) where
   pair-after (person s level) p q = inr refl
   pair-after (folder o f kind level) p q = inr refl
   pair-after (role k rights) p q = inr refl
+  pair-after (public o) p q = inr refl
   pair-after (pair a b) p q =
       ⊎-elim
       (λ (e : p ≡ a). ⊎-elim (λ (f : q ≡ b). inl (rw (e, f))) (λ d. inr (rw e (other-member a b q d))) (same-or-other q b))
@@ -142,7 +133,7 @@ module _ (t : Tables) where
 
 -- ---- a record gives its entry, which was not declared before
 
-now-second : (a b : Bool) → a ≡ true → a && b ≡ false → b ≡ false
+pub now-second : (a b : Bool) → a ≡ true → a && b ≡ false → b ≡ false
 now-second true b e h = h
 now-second false b e h = absurd (false≢true e)
 
@@ -154,11 +145,6 @@ module _ (t : Tables) where
   person-below : (s level : ℕ) → Passes t (person s level) → s < 64
   unfolding inRange
   person-below s level p = let l = leb-true s 63 (p .range) in omega arith
-
-  folder-below : (o f kind level : ℕ) → Passes t (folder o f kind level) → o < 128
-  unfolding inRange
-  folder-below o f kind level p =
-      let l = leb-true o 127 (and-left (leb o 127) _ (and-left (leb o 127 && leb f 63) _ (p .range))) in omega arith
 
   role-below : (k rights : ℕ) → Passes t (role k rights) → k < 32
   unfolding inRange
@@ -175,10 +161,6 @@ module _ (t : Tables) where
   pub person-fresh : (s level : ℕ) → Passes t (person s level) → personAt t s .declared ≡ false
   unfolding declaredBefore personDeclared
   person-fresh s level p = now-second (ltb s 64) _ (lt-ltb s 64 (person-below s level p)) (p .fresh)
-
-  pub folder-fresh : (o f kind level : ℕ) → Passes t (folder o f kind level) → folderAt t o .declared ≡ false
-  unfolding declaredBefore folderDeclared
-  folder-fresh o f kind level p = now-second (ltb o 128) _ (lt-ltb o 128 (folder-below o f kind level p)) (p .fresh)
 
   pub role-fresh : (k rights : ℕ) → Passes t (role k rights) → roleAt t k .declared ≡ false
   unfolding declaredBefore roleDeclared
@@ -197,12 +179,6 @@ module _ (t : Tables) where
       → personAt (declare t (person n level)) n ≡ record { declared = true; level = record { 0 = level } }
   unfolding declare
   person-given n level s p = getD-set-same (t .persons) n _ noPerson (rw (s .persons .size) (person-below n level p))
-
-  pub folder-given : (o f kind level : ℕ) → Sound AnyWidth t → Passes t (folder o f kind level)
-      → folderAt (declare t (folder o f kind level)) o ≡ record { declared = true; firm = f; kind = kind; level = record { 0 = level } }
-  unfolding declare
-  folder-given o f kind level s p =
-      getD-set-same (t .folders) o _ noFolder (rw (s .folders .size) (folder-below o f kind level p))
 
   pub role-given : (k rights : ℕ) → Sound AnyWidth t → Passes t (role k rights)
       → roleAt (declare t (role k rights)) k ≡ record { declared = true; rights = rights }
@@ -225,10 +201,6 @@ pub person-blank : (i : ℕ) → personAt emptyTables i .declared ≡ false
 unfolding emptyTables
 person-blank = blank-each (λ s. s .declared ≡ false) noPerson 64 refl
 
-pub folder-blank : (i : ℕ) → folderAt emptyTables i .declared ≡ false
-unfolding emptyTables
-folder-blank = blank-each (λ o. o .declared ≡ false) noFolder 128 refl
-
 pub role-blank : (i : ℕ) → roleAt emptyTables i .declared ≡ false
 unfolding emptyTables
 role-blank = blank-each (λ k. k .declared ≡ false) noRole 32 refl
@@ -237,7 +209,7 @@ pub pair-blank : (p q : ℕ) → enables emptyTables p q ≡ false
 unfolding emptyTables enables
 pair-blank p q = blank-each (λ (x : ℕ). bit x q ≡ false) 0 16 (bit-zero q) p
 
--- ---- the five parts
+-- ---- the parts
 
 abbrev pub firmPart : Part
 firmPart =
@@ -252,7 +224,7 @@ firmPart =
       marked = λ v. refl;
       fresh = firm-fresh;
       given = firm-given;
-      after = firm-after;
+      after = λ t r i s p. firm-after t r i;
       blank = firm-blank;
     }
 
@@ -269,25 +241,8 @@ personPart =
       marked = λ v. refl;
       fresh = person-fresh;
       given = person-given;
-      after = person-after;
+      after = λ t r i s p. person-after t r i;
       blank = person-blank;
-    }
-
-abbrev pub folderPart : Part
-folderPart =
-    record {
-      Index = ℕ;
-      Value = ℕ × ℕ × ℕ;
-      Entry = Folder;
-      records = λ o v. folder o (v .0) (v .1) (v .2);
-      value = λ v. record { declared = true; firm = v .0; kind = v .1; level = record { 0 = v .2 } };
-      entry = folderAt;
-      isDeclared = λ o. o .declared;
-      marked = λ v. refl;
-      fresh = λ t o v. folder-fresh t o (v .0) (v .1) (v .2);
-      given = λ t o v. folder-given t o (v .0) (v .1) (v .2);
-      after = folder-after;
-      blank = folder-blank;
     }
 
 abbrev pub rolePart : Part
@@ -303,7 +258,7 @@ rolePart =
       marked = λ v. refl;
       fresh = role-fresh;
       given = role-given;
-      after = role-after;
+      after = λ t r i s p. role-after t r i;
       blank = role-blank;
     }
 
@@ -320,21 +275,21 @@ pairPart =
       marked = λ v. refl;
       fresh = λ t i v. pair-fresh t (i .0) (i .1);
       given = λ t i v. pair-given t (i .0) (i .1);
-      after = λ t r i. ⊎-elim (λ e. inl (tt, e)) (λ same. inr same) (pair-after t r (i .0) (i .1));
+      after = λ t r i s p. ⊎-elim (λ e. inl (tt, e)) (λ same. inr same) (pair-after t r (i .0) (i .1));
       blank = λ i. pair-blank (i .0) (i .1);
     }
 
 -- ---- what a record leaves, and what it gives, in every part
 
 module _ (part : Part) (t : Tables) where
-  pub left : (r : Record) (i : part .Index) → ((v : part .Value) → r ≡ part .records i v → ⊥)
+  pub left : (r : Record) (i : part .Index) → Sound AnyWidth t → Passes t r → ((v : part .Value) → r ≡ part .records i v → ⊥)
       → part .entry (declare t r) i ≡ part .entry t i
-  left r i h = ⊎-elim (λ w. absurd (h (w .0) (w .1))) (λ same. same) (part .after t r i)
+  left r i s p h = ⊎-elim (λ w. absurd (h (w .0) (w .1))) (λ same. same) (part .after t r i s p)
 
   -- a record that passes its checks leaves a declared entry
-  pub declared-left : (r : Record) (i : part .Index) → Passes t r → part .isDeclared (part .entry t i) ≡ true
+  pub declared-left : (r : Record) (i : part .Index) → Sound AnyWidth t → Passes t r → part .isDeclared (part .entry t i) ≡ true
       → part .entry (declare t r) i ≡ part .entry t i
-  declared-left r i p h = left r i (λ v e. false-elim _ (part .fresh t i v (rw e at p)) h)
+  declared-left r i s p h = left r i s p (λ v e. false-elim _ (part .fresh t i v (rw e at p)) h)
 
   pub entry-of : (r : Record) (i : part .Index) (v : part .Value) → part .records i v ≡ r → Sound AnyWidth t → Passes t r
       → part .entry (declare t r) i ≡ part .value v

@@ -6,9 +6,9 @@ use native.Mathlib.Nat.{eq-or-lt-of-le, le-of-suc-le-suc, not-suc-le-zero, lt-su
 use native.Mathlib.Omega.{arith}
 use mathlib.Core.Path.{_≡_, refl, sym, ap, _∙_}
 use mathlib.Core.Logic.{_⊎_, inl, inr, ⊎-elim, _↔_, _≢_}
-use mathlib.Core.Bool.{Bool, true, false, cond, not, _&&_}
+use mathlib.Core.Bool.{Bool, true, false, cond, not, _&&_, _||_}
 use lib.Dec.{eqb}
-use borrow.Author.Tests.{eqb-true, eqb-false, eq-eqb, ne-eqb, not-true}
+use borrow.Author.Tests.{eqb-false, ne-eqb, not-true}
 use Rattle.bits.specs.Bits.{bit}
 use Rattle.bits.specs.Bounded.{anyBelow, foldBelow, _implies_}
 use Rattle.bits.proofs.Booleans.{
@@ -28,14 +28,14 @@ use Rattle.bits.proofs.Bounds.{any-some, some-any, all-at, all-of}
 use Rattle.level.specs.Levels.{atMost, meetOf}
 use Rattle.level.proofs.LevelLaws.{atMost-refl, atMost-antisym, split}
 use Rattle.policy.specs.declared.Tables.{Tables}
-use Rattle.policy.specs.Tables.{personAt, folderAt, roleAt, enables, roleDeclared, classOf}
+use Rattle.policy.specs.Tables.{personAt, folderAt, roleAt, enables, roleDeclared, classOf, isPublic}
 use Rattle.policy.specs.Request.{Request, read, write, start, step, subject}
 use Rattle.policy.specs.Rules.{
   right,
   someRequest,
   did,
-  accessed,
-  opened,
+  counts,
+  counted,
   otherClass,
   wallAccess,
   wall,
@@ -52,6 +52,7 @@ use Rattle.policy.specs.Rules.{
 use Rattle.policy.specs.Published.{
   requester,
   rightOf,
+  NotPublic,
   Access,
   InHistory,
   Accessed,
@@ -70,9 +71,11 @@ use Rattle.policy.proofs.Accesses.{
   request-some,
   did-in,
   in-did,
-  accessed-some,
-  some-accessed,
   accessed-below,
+  counts-some,
+  some-counts,
+  counted-some,
+  some-counted,
   done-applied,
   applied-done,
   applied-below,
@@ -96,39 +99,39 @@ right-is t (step s p o) = refl
 module _ (t : Tables) (H : Request → Bool) where
   -- ---- the wall
 
-  pub opened-some : (s f : ℕ) → opened t H s f ≡ true → (o : ℕ) × Accessed t H s o × (f ≡ folderAt t o .firm)
-  unfolding opened
-  opened-some s f e =
-      let (o, l, w) = any-some 128 (λ o. accessed t H s o && eqb (folderAt t o .firm) f) e in
-      (o, accessed-some t H s o (and-left (accessed t H s o) _ w), sym (eqb-true _ _ (and-right (accessed t H s o) _ w)))
-
-  pub some-opened : (s f o : ℕ) → Accessed t H s o → f ≡ folderAt t o .firm → opened t H s f ≡ true
-  unfolding opened
-  some-opened s f o a e =
-      some-any 128 (λ o. accessed t H s o && eqb (folderAt t o .firm) f) o (accessed-below t H s o a)
-      (and-both _ _ (some-accessed t H s o a) (eq-eqb _ _ (sym e)))
-
-  other-all : (s c : ℕ) → otherClass t H s c ≡ true → (o : ℕ) → Accessed t H s o → c ≢ classOf t o
+  other-all : (s c : ℕ) → otherClass t H s c ≡ true → (o : ℕ) → Accessed t H s o → NotPublic t o → c ≢ classOf t o
   unfolding otherClass
-  other-all s c e o a q =
-      let d = all-at 128 (λ o. accessed t H s o implies not (eqb (classOf t o) c)) e o (accessed-below t H s o a) in
-      eqb-false (classOf t o) c (not-true _ (implies-elim (accessed t H s o) _ d (some-accessed t H s o a))) (sym q)
+  other-all s c e o a n q =
+      let d = all-at 128 (λ o. counts t H s o implies not (eqb (classOf t o) c)) e o (accessed-below t H s o a) in
+      eqb-false (classOf t o) c (not-true _ (implies-elim (counts t H s o) _ d (some-counts t H s o a n))) (sym q)
 
-  all-other : (s c : ℕ) → ((o : ℕ) → Accessed t H s o → c ≢ classOf t o) → otherClass t H s c ≡ true
+  all-other : (s c : ℕ) → ((o : ℕ) → Accessed t H s o → NotPublic t o → c ≢ classOf t o) → otherClass t H s c ≡ true
   unfolding otherClass
   all-other s c h =
-      all-of 128 (λ o. accessed t H s o implies not (eqb (classOf t o) c))
-      (λ o l. implies-intro (accessed t H s o) _ (λ a. ap not (ne-eqb (classOf t o) c (λ q. h o (accessed-some t H s o a) (sym q)))))
+      all-of 128 (λ o. counts t H s o implies not (eqb (classOf t o) c))
+      (λ o l. implies-intro (counts t H s o) _ (λ k.
+      let (a, n) = counts-some t H s o k in ap not (ne-eqb (classOf t o) c (λ q. h o a n (sym q)))))
 
-  wall-access : (s o : ℕ) → (wallAccess t H s o ≡ true) ↔ WallAccess t H s o
-  unfolding wallAccess classOf
-  wall-access s o = (
+  -- the part of the wall that looks at the folders that count
+  by-counted : (s o : ℕ) → (counted t H s (folderAt t o .firm) || otherClass t H s (classOf t o) ≡ true) ↔ WallAccess t H s o
+  unfolding classOf
+  by-counted s o = (
     λ e.
-        ⊎-elim (λ l. inl (opened-some s (folderAt t o .firm) l)) (λ l. inr (other-all s (classOf t o) l))
-        (or-cases (opened t H s (folderAt t o .firm)) _ e),
+        ⊎-elim (λ l. inl (counted-some t H s (folderAt t o .firm) l)) (λ l. inr (other-all s (classOf t o) l))
+        (or-cases (counted t H s (folderAt t o .firm)) _ e),
     λ w.
-        ⊎-elim (λ l. or-left _ _ (some-opened s (folderAt t o .firm) (l .0) (l .1) (l .2)))
-        (λ l. or-right (opened t H s (folderAt t o .firm)) _ (all-other s (classOf t o) l)) w,
+        ⊎-elim (λ l. or-left _ _ (some-counted t H s (folderAt t o .firm) (l .0) (l .1) (l .2) (l .3)))
+        (λ l. or-right (counted t H s (folderAt t o .firm)) _ (all-other s (classOf t o) l)) w,
+  )
+
+  wall-access : (s o : ℕ) → (wallAccess t H s o ≡ true) ↔ (NotPublic t o → WallAccess t H s o)
+  unfolding wallAccess
+  wall-access s o = (
+    λ e n.
+        ⊎-elim (λ l. absurd (false-elim (isPublic t o) n l)) (λ l. by-counted s o .0 l)
+        (or-cases (isPublic t o) (counted t H s (folderAt t o .firm) || otherClass t H s (classOf t o)) e),
+    λ w.
+        ⊎-elim (λ l. or-left _ _ l) (λ n. or-right (isPublic t o) _ (by-counted s o .1 (w n))) (decide (isPublic t o)),
   )
 
   -- the wall, at the person and folder of an access

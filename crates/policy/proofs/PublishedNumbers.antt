@@ -53,7 +53,7 @@ end-numbered t = refl
 
 -- the numbers of a refused book, and 0
 abbrev pub bookNumbers : List ℕ
-bookNumbers = 0 ∷ 1 ∷ 2 ∷ 3 ∷ 4 ∷ 5 ∷ 6 ∷ 7 ∷ 8 ∷ 9 ∷ []
+bookNumbers = 0 ∷ 1 ∷ 2 ∷ 3 ∷ 4 ∷ 5 ∷ 6 ∷ 7 ∷ 8 ∷ 9 ∷ 19 ∷ []
 
 -- what holds of every refusal, and of all tables with the number 0, holds of what a book comes to
 module _ (P : Loaded → Type 0) (refusal : (n at : ℕ) → List·Memᴰ n bookNumbers → P (refusedBook n at))

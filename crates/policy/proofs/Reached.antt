@@ -19,6 +19,7 @@ use Rattle.policy.specs.Rulebook.{
   inRange,
   declaredBefore,
   firmStands,
+  folderStands,
   entersCreate,
   recordChecks,
   declare,
@@ -62,8 +63,8 @@ written-next at t r rest l f p first k o =
     next {l = l} (written-permitted at t r rest f p first) k (rw (body-left r rest, read-back r rest f) o)
 
 rules-pass : (t : Tables) (m : ℕ) → m ≤ 15 → Passes t (rules m)
-unfolding inRange declaredBefore firmStands entersCreate
-rules-pass t m h = record { range = le-leb m 15 h; fresh = refl; stands = refl; notCreate = refl }
+unfolding inRange declaredBefore firmStands folderStands entersCreate
+rules-pass t m h = record { range = le-leb m 15 h; fresh = refl; firmEarlier = refl; folderEarlier = refl; notCreate = refl }
 
 rules-fit : (m : ℕ) → Fits Bits (rules m)
 unfolding Fits
@@ -101,8 +102,8 @@ reached-next t r b k f p =
 -- ---- the end record
 
 end-passes : (t : Tables) → Passes t end
-unfolding inRange declaredBefore firmStands entersCreate
-end-passes t = record { range = refl; fresh = refl; stands = refl; notCreate = refl }
+unfolding inRange declaredBefore firmStands folderStands entersCreate
+end-passes t = record { range = refl; fresh = refl; firmEarlier = refl; folderEarlier = refl; notCreate = refl }
 
 end-permitted : (at : ℕ) (t : Tables) → at ≢ 0 → AllPermit (recordChecks at t 0 [])
 unfolding kindOf bodyOf Fits

@@ -21,6 +21,8 @@ use Rattle.policy.specs.Rulebook.{
   folder,
   role,
   pair,
+  public,
+  lastKind,
   bodyLength,
   recordOf,
   inRange,
@@ -42,7 +44,7 @@ use Rattle.policy.proofs.Answers.{
   refuses-unequal,
 }
 use Rattle.policy.proofs.StandsLaws.{end-bytes, kind-front, record-front, stands-long}
-use Rattle.policy.proofs.Known.{Known, before-known, firm-stood, circle-known, loose-known}
+use Rattle.policy.proofs.Known.{Known, before-known, firm-stood, folder-stood, circle-known, loose-known}
 
 -- ---- the tests of one record
 
@@ -66,6 +68,7 @@ range-is (folder o f kind level) =
     (λ w. (w .0 .0, w .0 .1, w .1), λ w. ((w .0, w .1), w .2))
 range-is (role k rights) = leb-is k 31
 range-is (pair p q) = and-is (leb-is p 15) (leb-is q 15)
+range-is (public o) = leb-is o 127
 
 create-is : (r : Record) → (entersCreate r ≡ true) ↔ ((p : ℕ) × (r ≡ pair p 0))
 unfolding entersCreate
@@ -76,6 +79,7 @@ create-is (person s level) = (λ e. absurd (false≢true e), λ w. cc (w .1))
 create-is (folder o f kind level) = (λ e. absurd (false≢true e), λ w. cc (w .1))
 create-is (role k rights) = (λ e. absurd (false≢true e), λ w. cc (w .1))
 create-is (pair p q) = (λ e. (p, ap (pair p) (eqb-true q 0 e)), λ w. eq-eqb q 0 (cc (w .1)))
+create-is (public o) = (λ e. absurd (false≢true e), λ w. cc (w .1))
 
 -- ---- row by row
 
@@ -93,15 +97,15 @@ module _ {at : ℕ} {before : List Record} {t : Tables} (k : Known at before t) 
   misplaced-is = refuses-unequal (eqb-is kind 1) (Iff·trans (eqb-is at 0) (k .first))
 
   -- a record stands exactly where the body is whole
-  whole-is : kind ≤ 6 → (leb (bodyLength kind) (length body) ≡ true) ↔ RecordAtFront (kind ∷ body) (λ r. Unit {0})
+  whole-is : kind ≤ lastKind → (leb (bodyLength kind) (length body) ≡ true) ↔ RecordAtFront (kind ∷ body) (λ r. Unit {0})
   whole-is known = (
     λ e. record-front kind body {P = λ r. Unit {0}} known (leb-true (bodyLength kind) (length body) e) .0 tt,
     λ w. le-leb (bodyLength kind) (length body) (stands-long kind body (w .2)),
   )
 
-  module _ (known : leb kind 6 ≡ true) (long : leb (bodyLength kind) (length body) ≡ true) where
+  module _ (known : leb kind lastKind ≡ true) (long : leb (bodyLength kind) (length body) ≡ true) where
     front-is : {P : Record → Type 0} → P (recordOf kind body) ↔ RecordAtFront (kind ∷ body) P
-    front-is {P} = record-front kind body {P = P} (leb-true kind 6 known) (leb-true (bodyLength kind) (length body) long)
+    front-is {P} = record-front kind body {P = P} (leb-true kind lastKind known) (leb-true (bodyLength kind) (length body) long)
 
     end-is : (eqb kind 0 ≡ true) ↔ (recordOf kind body ≡ end)
     unfolding recordOf
@@ -115,12 +119,13 @@ module _ {at : ℕ} {before : List Record} {t : Tables} (k : Known at before t) 
   front-numbered =
       let r = recordOf kind body in
       one-row refl (λ f. absurd (false≢true (sym f)), λ (e : kind ∷ body ≡ []). cc)
-      (then-row refl (Iff·trans (leb-false kind 6, lt-leb kind 6) (kind-front kind body))
+      (then-row refl (Iff·trans (leb-false kind lastKind, lt-leb kind lastKind) (kind-front kind body))
       (λ known. one-row refl (Iff·trans misplaced-is (kind-front kind body))
-      (then-row refl (refuses-not (whole-is (leb-true kind 6 known)))
+      (then-row refl (refuses-not (whole-is (leb-true kind lastKind known)))
       (λ long. one-row refl (Iff·trans (refuses-not (range-is r)) (front-is known long))
       (one-row refl (Iff·trans (refuses-where (before-known k r)) (front-is known long))
       (one-row refl (Iff·trans (firm-stood k r) (front-is known long))
+      (one-row refl (Iff·trans (folder-stood k r) (front-is known long))
       (one-row refl (Iff·trans (refuses-where (create-is r)) (front-is known long))
       (one-row refl (Iff·trans (refuses-under (end-is known long) (circle-known k)) (front-is known long))
-      (one-row refl (Iff·trans (refuses-under (end-is known long) (loose-known k)) (front-is known long)) no-rows)))))))))
+      (one-row refl (Iff·trans (refuses-under (end-is known long) (loose-known k)) (front-is known long)) no-rows))))))))))

@@ -17,6 +17,7 @@ use Rattle.policy.specs.Rulebook.{
   inRange,
   declaredBefore,
   firmStands,
+  folderStands,
   entersCreate,
   recordChecks,
   declare,
@@ -50,8 +51,8 @@ use Rattle.policy.proofs.PublishedNumbers.{load-cases, ran-number, stan
 -- the empty book loads, to its tables
 empty-book : loadBook (1 ∷ 0 ∷ 0 ∷ []) .tables ≡ emptyTables
 unfolding
-    bit withBit anyBelow ladder emptyTables enables bodyLength recordOf inRange declaredBefore firmStands entersCreate recordChecks declare
-    reaches hasCircle isLoose hasLoose endChecks refusedBook ended loadFrom loadBook
+    bit withBit anyBelow ladder emptyTables enables bodyLength recordOf inRange declaredBefore firmStands folderStands entersCreate
+    recordChecks declare reaches hasCircle isLoose hasLoose endChecks refusedBook ended loadFrom loadBook
 empty-book = refl
 
 pub refused-tables : (book : List ℕ) → loadBook book .number ≢ 0 → loadBook book .tables ≡ emptyTables

@@ -1,6 +1,7 @@
--- With neither low-water nor pipeline in force, every list of the calls of a list granted throughout from blank is granted throughout.
--- The granted set of such a list is compatible: its parties are declared, no person accessed two rival firms, and for each person one
--- role covers all rights used. A part of a compatible set is compatible, and every request of the set passes after any part of it.
+-- With neither low-water nor pipeline in force, every list of the calls of a list granted throughout from blank is granted throughout. The
+-- granted set of such a list is compatible: its parties are declared, no person accessed folders of two rival firms that are not public,
+-- and for each person one role covers all rights used. A part of a compatible set is compatible, and every request of the set passes after
+-- any part of it.
 use Prim.Native.Nat.{ℕ}
 use mathlib.Core.Path.{_≡_, refl, sym, ap, _∙_, subst}
 use mathlib.Core.Logic.{_⊎_, inl, inr, ⊎-elim, _≢_}
@@ -33,11 +34,12 @@ use Rattle.policy.specs.Tables.{
   pipelineRule,
 }
 use Rattle.policy.specs.Request.{Request, read, write, start, step, requestOf, member}
-use Rattle.policy.specs.Rules.{declared, opened}
+use Rattle.policy.specs.Rules.{declared, counted}
 use Rattle.policy.specs.Calls.{judgeOver, judgeList}
-use Rattle.policy.specs.Published.{requester, rightOf, rivalsOf, Access, Accessed, WallAccess, Roles}
+use Rattle.policy.specs.Published.{requester, rightOf, rivalsOf, NotPublic, Access, Accessed, WallAccess, Roles}
 use Rattle.policy.proofs.Requests.{member-none, member-head, member-tail, member-cases}
-use Rattle.policy.proofs.Published.{opened-some, some-opened, wall-published, roles-published}
+use Rattle.policy.proofs.Accesses.{counted-some, some-counted}
+use Rattle.policy.proofs.Published.{wall-published, roles-published}
 use Rattle.policy.proofs.Granted.{Passed, judge-passed, passed-judge, putOver, put-granted, grantedOver, judge-more}
 
 -- the folders' firms are one, or of different classes
@@ -66,7 +68,9 @@ Covers t S s k = (q : Request) → S q ≡ true → requester q ≡ s → bit (r
 -- what holds of a set that was granted one request after another
 record Fair (t : Tables) (S : Request → Bool) : Type 0 where
   known : (r : Request) → S r ≡ true → declared t r ≡ true
-  clean : inForce t wallRule ≡ true → (s o o′ : ℕ) → Accessed t S s o → Accessed t S s o′ → Compatible t o o′
+  clean :
+      inForce t wallRule ≡ true → (s o o′ : ℕ) → Accessed t S s o → NotPublic t o → Accessed t S s o′ → NotPublic t o′
+      → Compatible t o o′
   role :
       inForce t rolesRule ≡ true → (r : Request) → S r ≡ true
       → (k : ℕ) × (roleDeclared t k ≡ true) × Covers t S (requester r) k
@@ -75,7 +79,7 @@ fair-none : (t : Tables) → Fair t (member [])
 fair-none t =
     record {
       known = λ r h. absurd (false-elim (member [] r) (member-none r) h);
-      clean = λ on s o o′ a b. absurd (false-elim (member [] (a .0)) (member-none (a .0)) (a .1 .1));
+      clean = λ on s o o′ a n b m. absurd (false-elim (member [] (a .0)) (member-none (a .0)) (a .1 .1));
       role = λ on r h. absurd (false-elim (member [] r) (member-none r) h);
     }
 
@@ -88,26 +92,27 @@ module _ (t : Tables) (g : List Request) (r : Request) (fair : Fair t (member g)
   access-cases s o (q, h, a) =
       ⊎-elim (λ e. inl (subst (λ (x : Request). Access x s o) e a)) (λ m. inr (q, (h .0, m), a)) (member-cases r q g (h .1))
 
-  new-compatible : inForce t wallRule ≡ true → (s o o′ : ℕ) → Access r s o → Accessed t (member g) s o′ → Compatible t o o′
+  new-compatible : inForce t wallRule ≡ true → (s o o′ : ℕ) → Access r s o → NotPublic t o → Accessed t (member g) s o′
+      → NotPublic t o′ → Compatible t o o′
   unfolding Compatible
-  new-compatible on s o o′ a b =
+  new-compatible on s o o′ a k b l =
       ⊎-elim
       (λ w.
-      let (o″, c, e) = w in
-      ⊎-elim (λ f. inl (e ∙ f)) (λ n. inr (λ d. n (sym (class-of-firm t o o″ e) ∙ d))) (fair .clean on s o″ o′ c b))
-      (λ w. inr (w o′ b))
-      (wall-published t (member g) r .0 (implies-elim _ _ (p .walled) on) s o a)
+      let (o″, c, m, e) = w in
+      ⊎-elim (λ f. inl (e ∙ f)) (λ n. inr (λ d. n (sym (class-of-firm t o o″ e) ∙ d))) (fair .clean on s o″ o′ c m b l))
+      (λ w. inr (w o′ b l))
+      (wall-published t (member g) r .0 (implies-elim _ _ (p .walled) on) s o a k)
 
-  more-clean : inForce t wallRule ≡ true → (s o o′ : ℕ) → Accessed t (member (r ∷ g)) s o → Accessed t (member (r ∷ g)) s o′
-      → Compatible t o o′
+  more-clean : inForce t wallRule ≡ true → (s o o′ : ℕ) → Accessed t (member (r ∷ g)) s o → NotPublic t o
+      → Accessed t (member (r ∷ g)) s o′ → NotPublic t o′ → Compatible t o o′
   unfolding Compatible
-  more-clean on s o o′ a b =
+  more-clean on s o o′ a k b l =
       ⊎-elim
       (λ x.
-      ⊎-elim (λ y. inl (ap (λ (i : ℕ). folderAt t i .firm) (one-folder r s o o′ x y))) (λ y. new-compatible on s o o′ x y)
+      ⊎-elim (λ y. inl (ap (λ (i : ℕ). folderAt t i .firm) (one-folder r s o o′ x y))) (λ y. new-compatible on s o o′ x k y l)
       (access-cases s o′ b))
       (λ x.
-      ⊎-elim (λ y. compatible-sym t o′ o (new-compatible on s o′ o y x)) (λ y. fair .clean on s o o′ x y)
+      ⊎-elim (λ y. compatible-sym t o′ o (new-compatible on s o′ o y l x k)) (λ y. fair .clean on s o o′ x k y l)
       (access-cases s o′ b))
       (access-cases s o a)
 
@@ -143,14 +148,15 @@ module _ (t : Tables) (S H : Request → Bool) (fair : Fair t S) (part : (q : Re
   in-part : (s o : ℕ) → Accessed t H s o → Accessed t S s o
   in-part s o (q, h, a) = (q, (h .0, part q (h .1)), a)
 
-  passes-wall : inForce t wallRule ≡ true → (r : Request) → S r ≡ true → (s o : ℕ) → Access r s o → WallAccess t H s o
+  passes-wall : inForce t wallRule ≡ true → (r : Request) → S r ≡ true → (s o : ℕ) → Access r s o → NotPublic t o
+      → WallAccess t H s o
   unfolding Compatible
-  passes-wall on r m s o a =
-      ⊎-elim (λ y. inl (opened-some t H s (folderAt t o .firm) y))
-      (λ n. inr (λ o′ b.
-      ⊎-elim (λ e. absurd (false-elim (opened t H s (folderAt t o .firm)) n (some-opened t H s _ o′ b e))) (λ d. d)
-      (fair .clean on s o o′ (r, (fair .known r m, m), a) (in-part s o′ b))))
-      (decide (opened t H s (folderAt t o .firm)))
+  passes-wall on r m s o a k =
+      ⊎-elim (λ y. inl (counted-some t H s (folderAt t o .firm) y))
+      (λ n. inr (λ o′ b l.
+      ⊎-elim (λ e. absurd (false-elim (counted t H s (folderAt t o .firm)) n (some-counted t H s _ o′ b l e))) (λ d. d)
+      (fair .clean on s o o′ (r, (fair .known r m, m), a) k (in-part s o′ b) l)))
+      (decide (counted t H s (folderAt t o .firm)))
 
   passes-roles : inForce t rolesRule ≡ true → (r : Request) → S r ≡ true → Roles t H r
   unfolding Covers

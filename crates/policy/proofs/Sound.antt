@@ -1,10 +1,11 @@
 -- What holds of the tables after every record: arrays of their lengths, entries in range that are zero where undeclared, folders of
--- declared firms, sets of steps below 16 without step 0. It holds of the empty tables, and a record that passes its checks keeps it.
--- How wide levels and rights are is left open, since the checks do not say it: `Width w n` is what is asked of a number n of w bits.
+-- declared firms, only declared folders public, sets of steps below 16 without step 0. It holds of the empty tables, and a record that
+-- passes its checks keeps it. How wide levels and rights are is left open, since the checks do not say it: `Width w n` is what is asked of
+-- a number n of w bits.
 use Prim.Native.Nat.{ℕ, zero, suc, _^_, _≤_, _<_}
 use native.Mathlib.Omega.{arith}
 use mathlib.Core.Path.{_≡_, refl, sym, _∙_}
-use mathlib.Core.Bool.{Bool, true, false, cond, _&&_}
+use mathlib.Core.Bool.{Bool, true, false, cond, not, _&&_}
 use mathlib.Core.List.{List, [], _∷_, List·Memᴰ, List·Memᴰ·head, List·Memᴰ·tail}
 use lib.Dec.{eqb, leb, ltb, lit<}
 use lib.ListN.{length, getD, set, replicate, length-set, length-replicate}
@@ -17,7 +18,7 @@ use Rattle.policy.specs.declared.Person.{Person}
 use Rattle.policy.specs.declared.Folder.{Folder}
 use Rattle.policy.specs.declared.Role.{Role}
 use Rattle.policy.specs.declared.Tables.{Tables}
-use Rattle.policy.specs.Tables.{noFirm, noPerson, noFolder, noRole, emptyTables, enabledBy, firmDeclared}
+use Rattle.policy.specs.Tables.{noFirm, noPerson, noFolder, noRole, emptyTables, folderAt, enabledBy, firmDeclared, folderDeclared}
 use Rattle.policy.specs.Rulebook.{
   Record,
   end,
@@ -27,9 +28,12 @@ use Rattle.policy.specs.Rulebook.{
   folder,
   role,
   pair,
+  public,
   inRange,
   firmStands,
+  folderStands,
   entersCreate,
+  madePublic,
   declare,
   firmGiven,
   personGiven,
@@ -80,11 +84,18 @@ folder-kept : (t t′ : Tables) → ((g : ℕ) → firmDeclared t g ≡ true →
 unfolding folderGiven
 folder-kept t t′ h o = go (o .declared)
   where
-    go : (b : Bool)
-        → cond b (firmDeclared t (o .firm) && leb (o .kind) 15) (eqb (o .firm) 0 && eqb (o .kind) 0 && eqb (o .level .0) 0) ≡ true
-        → cond b (firmDeclared t′ (o .firm) && leb (o .kind) 15) (eqb (o .firm) 0 && eqb (o .kind) 0 && eqb (o .level .0) 0) ≡ true
+    blank : Bool
+    blank = eqb (o .firm) 0 && eqb (o .kind) 0 && eqb (o .level .0) 0 && not (o .public)
+
+    go : (b : Bool) → cond b (firmDeclared t (o .firm) && leb (o .kind) 15) blank ≡ true
+        → cond b (firmDeclared t′ (o .firm) && leb (o .kind) 15) blank ≡ true
     go true e = and-both _ _ (h (o .firm) (and-left (firmDeclared t (o .firm)) _ e)) (and-right (firmDeclared t (o .firm)) _ e)
     go false e = e
+
+-- a declared folder stays as a load leaves it, once it is marked public
+public-kept : (t : Tables) (e : Folder) → e .declared ≡ true → folderGiven t e ≡ true → folderGiven t (madePublic e) ≡ true
+unfolding folderGiven madePublic
+public-kept t e d g = rw d (rw d at g)
 
 set-sound : (x q : ℕ) → leb q 15 ≡ true → eqb q 0 ≡ false → (bit x 0 ≡ false) × (x < 2 ^ 16)
     → (bit (withBit x q) 0 ≡ false) × (withBit x q < 2 ^ 16)
@@ -112,6 +123,7 @@ module _ (Width : ℕ → ℕ → Type 0) where
   Fits (folder o f kind level) = Width 16 level
   Fits (role k rights) = Width 64 rights
   Fits (pair p q) = Unit {0}
+  Fits (public o) = Unit {0}
 
   pub start-sound : ((w : ℕ) → Width w 0) → (m : ℕ) → m ≤ 15 → Sound (declare emptyTables (rules m))
   unfolding emptyTables declare firmGiven personGiven folderGiven roleGiven
@@ -127,7 +139,8 @@ module _ (Width : ℕ → ℕ → Type 0) where
       }
 
   pub declare-sound : (t : Tables) (r : Record) → Sound t → Passes t r → Fits r → Sound (declare t r)
-  unfolding declare inRange Fits firmGiven personGiven folderGiven roleGiven firmStands entersCreate firmDeclared
+  unfolding declare inRange Fits firmGiven personGiven folderGiven roleGiven firmStands folderStands entersCreate firmDeclared
+      folderDeclared madePublic
   declare-sound t end s p w = s
   declare-sound t (rules m) s p w =
       record {
@@ -161,7 +174,8 @@ module _ (Width : ℕ → ℕ → Type 0) where
         mask = s .mask;
         firms = s .firms;
         persons = s .persons;
-        folders = array-set (t .folders) o _ (s .folders) (and-both _ _ (p .stands) (and-right (leb o 127 && leb f 63) _ (p .range)), w);
+        folders =
+            array-set (t .folders) o _ (s .folders) (and-both _ _ (p .firmEarlier) (and-right (leb o 127 && leb f 63) _ (p .range)), w);
         roles = s .roles;
         steps = s .steps;
       }
@@ -184,6 +198,18 @@ module _ (Width : ℕ → ℕ → Type 0) where
         steps =
             array-set (t .steps) n _ (s .steps)
             (set-sound (enabledBy t n) q (and-right (leb n 15) _ (p .range)) (p .notCreate) (s .steps .each n));
+      }
+  declare-sound t (public o) s p w =
+      let (given, width) = s .folders .each o in
+      record {
+        mask = s .mask;
+        firms = s .firms;
+        persons = s .persons;
+        folders =
+            array-set (t .folders) o _ (s .folders)
+            (public-kept t (folderAt t o) (and-right (ltb o 128) (folderAt t o .declared) (p .folderEarlier)) given, width);
+        roles = s .roles;
+        steps = s .steps;
       }
 
   pub declares-sound : {t t′ : Tables} {rs : List Record} → Declares t rs t′ → Sound t → ((r : Record) → List·Memᴰ r rs → Fits r) → Sound t′

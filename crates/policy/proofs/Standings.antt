@@ -18,8 +18,8 @@ use Rattle.policy.specs.Published.{requester, rightOf, InHistory, Access
 use Rattle.policy.specs.Demands.{Standings, Levels}
 use Rattle.policy.proofs.Ladders.{permit-first, permit-rest, ladder-zero}
 use Rattle.policy.proofs.Requests.{declared-place, declared-step}
-use Rattle.policy.proofs.Accesses.{access-declared, some-request, request-some, did-in, in-did}
-use Rattle.policy.proofs.Published.{subject-is, right-is, opened-some, some-opened, level-is-meet}
+use Rattle.policy.proofs.Accesses.{access-declared, some-request, request-some, did-in, in-did, opened-some, some-opened}
+use Rattle.policy.proofs.Published.{subject-is, right-is, level-is-meet}
 use Rattle.policy.proofs.PublishedNumbers.{standing-number}
 use Rattle.policy.proofs.GivenEntries.{folder-firm, folder-kind}
 use Rattle.policy.proofs.Counts.{count-number}

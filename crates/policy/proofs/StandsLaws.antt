@@ -1,5 +1,5 @@
 -- A record stands at the front of some bytes exactly where the kind byte is known and the body is whole, and it is then the record that is
--- read there; so at most one stands. For each of the seven kinds by computation, with the laws of `take` and `drop` for the numbers of more
+-- read there; so at most one stands. For each kind by computation, with the laws of `take` and `drop` for the numbers of more
 -- than one byte.
 use Prim.Native.Nat.{ℕ, zero, suc, _+_, _*_, _≤_}
 use native.Mathlib.Omega.{arith}
@@ -14,6 +14,7 @@ use Rattle.policy.specs.Rulebook.{
   person,
   folder,
   role,
+  lastKind,
   bodyLength,
   littleEndian,
   recordOf,
@@ -28,6 +29,7 @@ use Rattle.policy.specs.Loading.{
   kind-4,
   kind-5,
   kind-6,
+  kind-7,
   KindAtFront,
   RecordAtFront,
 }
@@ -64,8 +66,9 @@ stands-whole (kind-5 {k = k} rights {rest = rest} e) =
     whole 5 _ (rw length-append (omega arith)) (ap (λ (l : List ℕ). role k (littleEndian l)) (take-at rights rest 8 e))
     (drop-at rights rest 8 e)
 stands-whole kind-6 = whole 6 _ (omega arith) refl refl
+stands-whole kind-7 = whole 7 _ (omega arith) refl refl
 
-pub whole-stands : (kind : ℕ) (body : List ℕ) → kind ≤ 6 → bodyLength kind ≤ length body
+pub whole-stands : (kind : ℕ) (body : List ℕ) → kind ≤ lastKind → bodyLength kind ≤ length body
     → Stands (recordOf kind body) (kind ∷ body) (drop (bodyLength kind) body)
 unfolding bodyLength recordOf
 whole-stands zero body k l = kind-0
@@ -78,6 +81,7 @@ whole-stands (suc (suc (suc (suc zero)))) (o ∷ f ∷ kind ∷ low ∷ high ∷
 whole-stands (suc (suc (suc (suc (suc zero))))) (n ∷ rest) k l =
     rw (take-append-drop 8 rest) at (kind-5 {k = n} (take 8 rest) {rest = drop 8 rest} (length-take-le 8 rest (omega arith)))
 whole-stands (suc (suc (suc (suc (suc (suc zero)))))) (p ∷ q ∷ rest) k l = kind-6
+whole-stands (suc (suc (suc (suc (suc (suc (suc zero))))))) (o ∷ rest) k l = kind-7
 whole-stands (suc zero) [] k l = absurd (omega arith)
 whole-stands (suc (suc zero)) [] k l = absurd (omega arith)
 whole-stands (suc (suc zero)) (f ∷ []) k l = absurd (omega arith)
@@ -92,7 +96,8 @@ whole-stands (suc (suc (suc (suc zero)))) (o ∷ f ∷ kind ∷ low ∷ []) k l 
 whole-stands (suc (suc (suc (suc (suc zero))))) [] k l = absurd (omega arith)
 whole-stands (suc (suc (suc (suc (suc (suc zero)))))) [] k l = absurd (omega arith)
 whole-stands (suc (suc (suc (suc (suc (suc zero)))))) (p ∷ []) k l = absurd (omega arith)
-whole-stands (suc (suc (suc (suc (suc (suc (suc kind))))))) body k l = absurd (omega arith)
+whole-stands (suc (suc (suc (suc (suc (suc (suc zero))))))) [] k l = absurd (omega arith)
+whole-stands (suc (suc (suc (suc (suc (suc (suc (suc kind)))))))) body k l = absurd (omega arith)
 
 -- ---- one record stands, and it is the one that is read
 
@@ -128,7 +133,7 @@ module _ (kind : ℕ) (body : List ℕ) where
   pub kind-front : {P : ℕ → Type 0} → P kind ↔ KindAtFront (kind ∷ body) P
   kind-front {P} = (λ p. (kind, body, refl, p), λ w. let e : w .0 ≡ kind = cc (w .2) in subst P e (w .3))
 
-  pub record-front : {P : Record → Type 0} → kind ≤ 6 → bodyLength kind ≤ length body
+  pub record-front : {P : Record → Type 0} → kind ≤ lastKind → bodyLength kind ≤ length body
       → P (recordOf kind body) ↔ RecordAtFront (kind ∷ body) P
   record-front {P} k l =
       let here = whole-stands kind body k l in

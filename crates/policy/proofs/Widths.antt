@@ -52,7 +52,8 @@ record-fits (suc (suc (suc zero))) body h = little-small 2 (drop 1 body) (bytes-
 record-fits (suc (suc (suc (suc zero)))) body h = little-small 2 (drop 3 body) (bytes-drop 3 body h)
 record-fits (suc (suc (suc (suc (suc zero))))) body h = little-small 8 (drop 1 body) (bytes-drop 1 body h)
 record-fits (suc (suc (suc (suc (suc (suc zero)))))) body h = tt
-record-fits (suc (suc (suc (suc (suc (suc (suc kind))))))) body h = tt
+record-fits (suc (suc (suc (suc (suc (suc (suc zero))))))) body h = tt
+record-fits (suc (suc (suc (suc (suc (suc (suc (suc kind)))))))) body h = tt
 
 records-fit : (n : ℕ) (bytes : List ℕ) → Bytes bytes → (r : Record) → List·Memᴰ r (recordsFrom n bytes) → Fits Bits r
 unfolding recordsFrom

@@ -1,5 +1,5 @@
 -- The bytes of a record: its kind, then its fields, with the lowest byte first. Read, they give the record again, where its numbers have
--- no more bits than their fields, and they pass the checks where the record does; for each of the seven kinds by computation.
+-- no more bits than their fields, and they pass the checks where the record does; for each kind by computation.
 use Prim.Native.Nat.{ℕ, zero, suc, _+_, _*_, _^_, _/_, _%_, _≤_, _<_}
 use native.Mathlib.Omega.{arith}
 use mathlib.Core.Path.{_≡_, refl, ap}
@@ -20,6 +20,8 @@ use Rattle.policy.specs.Rulebook.{
   folder,
   role,
   pair,
+  public,
+  lastKind,
   bodyLength,
   littleEndian,
   recordOf,
@@ -65,6 +67,7 @@ kindOf (person s level) = 3
 kindOf (folder o f kind level) = 4
 kindOf (role k rights) = 5
 kindOf (pair p q) = 6
+kindOf (public o) = 7
 
 unfoldable pub bodyOf : Record → List ℕ
 bodyOf end = []
@@ -74,6 +77,7 @@ bodyOf (person s level) = s ∷ bytesOf 2 level
 bodyOf (folder o f kind level) = o ∷ f ∷ kind ∷ bytesOf 2 level
 bodyOf (role k rights) = k ∷ bytesOf 8 rights
 bodyOf (pair p q) = p ∷ q ∷ []
+bodyOf (public o) = o ∷ []
 
 two-bytes : (n : ℕ) → n < 2 ^ 16 → n % 256 + 256 * (n / 256 % 256 + 256 * 0) ≡ n
 two-bytes n h = omega arith
@@ -87,6 +91,7 @@ read-back (person s level) rest f = ap (person s) (two-bytes level f)
 read-back (folder o a kind level) rest f = ap (folder o a kind) (two-bytes level f)
 read-back (role k rights) rest f = ap (role k) (omega arith)
 read-back (pair p q) rest f = refl
+read-back (public o) rest f = refl
 
 pub body-left : (r : Record) (rest : List ℕ) → drop (bodyLength (kindOf r)) (bodyOf r ++ rest) ≡ rest
 unfolding bodyOf kindOf bytesOf bodyLength
@@ -97,6 +102,7 @@ body-left (person s level) rest = refl
 body-left (folder o f kind level) rest = refl
 body-left (role k rights) rest = refl
 body-left (pair p q) rest = refl
+body-left (public o) rest = refl
 
 body-long : (r : Record) (rest : List ℕ) → bodyLength (kindOf r) ≤ length (bodyOf r ++ rest)
 unfolding bodyOf kindOf bytesOf bodyLength
@@ -107,8 +113,9 @@ body-long (person s level) rest = omega arith
 body-long (folder o f kind level) rest = omega arith
 body-long (role k rights) rest = omega arith
 body-long (pair p q) rest = omega arith
+body-long (public o) rest = omega arith
 
-kind-known : (r : Record) → kindOf r ≤ 6
+kind-known : (r : Record) → kindOf r ≤ lastKind
 unfolding kindOf
 kind-known end = omega arith
 kind-known (rules mask) = omega arith
@@ -117,6 +124,7 @@ kind-known (person s level) = omega arith
 kind-known (folder o f kind level) = omega arith
 kind-known (role k rights) = omega arith
 kind-known (pair p q) = omega arith
+kind-known (public o) = omega arith
 
 -- a record whose fields are in range is written in bytes
 pub body-bytes : (r : Record) → inRange r ≡ true → Bytes (kindOf r ∷ bodyOf r)
@@ -142,6 +150,8 @@ body-bytes (pair p q) h =
     let l = leb-true p 15 (and-left (leb p 15) _ h) in
     let m = leb-true q 15 (and-right (leb p 15) _ h) in
     bytes-more 6 _ (omega arith) (bytes-more p _ (omega arith) (bytes-more q [] (omega arith) bytes-none))
+body-bytes (public o) h =
+    let l = leb-true o 127 h in bytes-more 7 _ (omega arith) (bytes-more o [] (omega arith) bytes-none)
 
 -- the checks of the bytes of a record that passes its own
 pub written-permitted : (at : ℕ) (t : Tables) (r : Record) (rest : List ℕ) → Fits Bits r → Passes t r → eqb (kindOf r) 1 ≡ eqb at 0

@@ -10,11 +10,12 @@ use lib.ListN.{getD}
 use Rattle.bits.specs.Bits.{bit}
 use Rattle.policy.specs.declared.Tables.{Tables}
 use Rattle.policy.specs.Tables.{noFirm, noPerson, noFolder, noRole, inForce, lowWaterRule, pipelineRule}
-use Rattle.policy.specs.Rulebook.{Record, rules, firm, person, folder, role, pair, loadBook, recordsOf}
+use Rattle.policy.specs.Rulebook.{Record, rules, firm, person, folder, role, pair, public, loadBook, recordsOf}
 use Rattle.policy.specs.Request.{Request, read, write, start, step, requestOf}
 use Rattle.policy.specs.Calls.{blankNumber, blankHistory, addedIf, judgeList, putNumbers, putHistories}
 
--- the tables hold what the records declare, all of it and nothing else: what no record declares is zero and marked undeclared
+-- the tables hold what the records declare, all of it and nothing else: what no record declares is zero and marked undeclared; a folder is
+-- marked public exactly where a record says so, and the rest of its entry is as its own record declares it
 pub record Holds (t : Tables) (records : List Record) : Type 0 where
   pub mask : (m : ℕ) → (List·Memᴰ (rules m) records) ↔ (t .mask ≡ m)
   pub firms :
@@ -31,10 +32,12 @@ pub record Holds (t : Tables) (records : List Record) : Type 0 where
       → getD (t .persons) s noPerson ≡ record { declared = false; level = record { 0 = 0 } }
   pub folders :
       (o f kind level : ℕ) → List·Memᴰ (folder o f kind level) records
-      → getD (t .folders) o noFolder ≡ record { declared = true; firm = f; kind = kind; level = record { 0 = level } }
+      → getD (t .folders) o noFolder
+      ≡ record { declared = true; firm = f; kind = kind; level = record { 0 = level }; public = getD (t .folders) o noFolder .public }
   pub noFolders :
       (o : ℕ) → ((f kind level : ℕ) → List·Memᴰ (folder o f kind level) records → ⊥)
-      → getD (t .folders) o noFolder ≡ record { declared = false; firm = 0; kind = 0; level = record { 0 = 0 } }
+      → getD (t .folders) o noFolder ≡ record { declared = false; firm = 0; kind = 0; level = record { 0 = 0 }; public = false }
+  pub publics : (o : ℕ) → (List·Memᴰ (public o) records) ↔ (getD (t .folders) o noFolder .public ≡ true)
   pub roles :
       (k rights : ℕ) → List·Memᴰ (role k rights) records
       → getD (t .roles) k noRole ≡ record { declared = true; rights = rights }

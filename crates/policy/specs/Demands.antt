@@ -59,7 +59,7 @@ use Rattle.policy.specs.Agreement.{FromBlank}
 -- every call's number is a published one
 pub record Numbers : Type 0 where
   pub blank : (h : List ℕ) → List·Memᴰ (blankNumber h) (0 ∷ 10 ∷ [])
-  pub load : (book : List ℕ) → List·Memᴰ (loadBook book .number) (0 ∷ 1 ∷ 2 ∷ 3 ∷ 4 ∷ 5 ∷ 6 ∷ 7 ∷ 8 ∷ 9 ∷ [])
+  pub load : (book : List ℕ) → List·Memᴰ (loadBook book .number) (0 ∷ 1 ∷ 2 ∷ 3 ∷ 4 ∷ 5 ∷ 6 ∷ 7 ∷ 8 ∷ 9 ∷ 19 ∷ [])
   pub judge :
       (t : Tables) (h bytes : List ℕ)
       → List·Memᴰ (judgeNumber t h bytes) (0 ∷ 10 ∷ 11 ∷ 12 ∷ 13 ∷ 14 ∷ 15 ∷ 16 ∷ 17 ∷ [])

@@ -13,4 +13,5 @@ pub mod Loading
 pub mod Counting
 pub mod Agreement
 pub mod Demands
+pub mod PublicFolders
 pub mod Marked

@@ -1,11 +1,11 @@
--- What loading comes to, by the records of a book alone (document 01, "Rulebook" and the table): how a record stands in the bytes, the
--- causes 1 to 9 over the records read before, and the first record that has one.
+-- What loading comes to, by the records of a book alone (document 01, "Rulebook" and the table; document 02, Point 1): how a record stands
+-- in the bytes, the causes 1 to 9 and 19 over the records read before, and the first record that has one.
 use Prim.Native.Nat.{ℕ, _+_, _*_, _≤_, _<_}
 use mathlib.Core.Path.{_≡_}
 use mathlib.Core.Logic.{_⊎_, _↔_, _≢_}
 use mathlib.Core.List.{List, [], _∷_, _++_, reverse, List·Memᴰ}
 use lib.ListN.{length}
-use Rattle.policy.specs.Rulebook.{Record, end, rules, firm, person, folder, role, pair, littleEndian, loadBook, recordsOf}
+use Rattle.policy.specs.Rulebook.{Record, end, rules, firm, person, folder, role, pair, public, littleEndian, loadBook, recordsOf}
 use Rattle.policy.specs.Calls.{restOf}
 use Rattle.policy.specs.Causes.{Cause, _when_, Answer}
 use Rattle.policy.specs.Ways.{Way}
@@ -23,6 +23,7 @@ pub data Stands : Record → List ℕ → List ℕ → Type 0 where
       {k : ℕ} (rights : List ℕ) {rest : List ℕ} → length rights ≡ 8
       → Stands (role k (littleEndian rights)) (5 ∷ k ∷ (rights ++ rest)) rest
   kind-6 : {p q : ℕ} {rest : List ℕ} → Stands (pair p q) (6 ∷ p ∷ q ∷ rest) rest
+  kind-7 : {o : ℕ} {rest : List ℕ} → Stands (public o) (7 ∷ o ∷ rest) rest
 
 -- P holds of the kind byte at the front of the bytes, or of the record that stands there
 abbrev pub KindAtFront : List ℕ → (ℕ → Type 0) → Type 0
@@ -40,13 +41,14 @@ InRange (person s level) = s ≤ 63
 InRange (folder o f kind level) = (o ≤ 127) × (f ≤ 63) × (kind ≤ 15)
 InRange (role k rights) = k ≤ 31
 InRange (pair p q) = (p ≤ 15) × (q ≤ 15)
+InRange (public o) = o ≤ 127
 
 module _ (before : List Record) where
   -- kind 1 not first, or again
   abbrev pub Misplaced : ℕ → Type 0
   Misplaced kind = ((before ≡ []) × (kind ≢ 1)) ⊎ ((before ≢ []) × (kind ≡ 1))
 
-  -- number or pair already declared
+  -- number or pair already declared; a folder marked twice
   abbrev pub DeclaredBefore : Record → Type 0
   DeclaredBefore end = ⊥
   DeclaredBefore (rules mask) = ⊥
@@ -55,6 +57,7 @@ module _ (before : List Record) where
   DeclaredBefore (folder o f kind level) = (f′ kind′ level′ : ℕ) × List·Memᴰ (folder o f′ kind′ level′) before
   DeclaredBefore (role k rights) = (rights′ : ℕ) × List·Memᴰ (role k rights′) before
   DeclaredBefore (pair p q) = List·Memᴰ (pair p q) before
+  DeclaredBefore (public o) = List·Memᴰ (public o) before
 
   -- firm not declared earlier
   abbrev pub NoFirmBefore : Record → Type 0
@@ -65,6 +68,11 @@ module _ (before : List Record) where
   NoFirmBefore (folder o f kind level) = (class : ℕ) → List·Memᴰ (firm f class) before → ⊥
   NoFirmBefore (role k rights) = ⊥
   NoFirmBefore (pair p q) = ⊥
+  NoFirmBefore (public o) = ⊥
+
+  -- a folder that is marked public, but not declared earlier
+  abbrev pub NoFolderBefore : Record → Type 0
+  NoFolderBefore r = (o : ℕ) × (r ≡ public o) × ((f kind level : ℕ) → List·Memᴰ (folder o f kind level) before → ⊥)
 
   -- p enables q
   abbrev pub Pair : ℕ → ℕ → Type 0
@@ -82,12 +90,13 @@ module _ (before : List Record) where
   unfoldable pub recordCauses : List ℕ → List Cause
   recordCauses bytes =
       (1 when (bytes ≡ []))
-      ∷ (2 when KindAtFront bytes (λ kind. 6 < kind))
+      ∷ (2 when KindAtFront bytes (λ kind. 7 < kind))
       ∷ (3 when KindAtFront bytes Misplaced)
       ∷ (1 when (RecordAtFront bytes (λ r. Unit {0}) → ⊥))
       ∷ (4 when RecordAtFront bytes (λ r. InRange r → ⊥))
       ∷ (5 when RecordAtFront bytes DeclaredBefore)
       ∷ (6 when RecordAtFront bytes NoFirmBefore)
+      ∷ (19 when RecordAtFront bytes NoFolderBefore)
       ∷ (7 when RecordAtFront bytes (λ r. (p : ℕ) × (r ≡ pair p 0)))
       ∷ (8 when RecordAtFront bytes (λ r. (r ≡ end) × Circle))
       ∷ (9 when RecordAtFront bytes (λ r. (r ≡ end) × Loose))

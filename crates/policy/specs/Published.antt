@@ -2,7 +2,7 @@
 use Prim.Native.Nat.{ℕ, _+_}
 use mathlib.Core.Path.{_≡_}
 use mathlib.Core.Logic.{_⊎_, _↔_, _≢_}
-use mathlib.Core.Bool.{Bool, true}
+use mathlib.Core.Bool.{Bool, true, false}
 use Rattle.bits.specs.Bits.{bit}
 use Rattle.level.specs.Levels.{atMost}
 use Rattle.policy.specs.declared.Tables.{Tables}
@@ -35,6 +35,10 @@ rightOf t (step s p o) = 48 + p
 abbrev pub rivalsOf : Tables → ℕ → ℕ
 rivalsOf t o = firmAt t (folderAt t o .firm) .class
 
+-- the folder is not marked public
+abbrev pub NotPublic : Tables → ℕ → Type 0
+NotPublic t o = folderAt t o .public ≡ false
+
 -- rules in force: bit 0 of the mask wall, 1 low-water, 2 roles, 3 pipeline
 abbrev pub WallInForce : Tables → Type 0
 WallInForce t = bit (t .mask) 0 ≡ true
@@ -58,14 +62,15 @@ module _ (t : Tables) (H : Request → Bool) where
   Accessed s o = (r : Request) × InHistory r × Access r s o
 
   -- 4.1: there exists ⟨s, o′⟩ ∈ H such that group[o] = group[o′],
-  -- or for all ⟨s, o′⟩ ∈ H, type[group[o]] ≠ type[group[o′]]
+  -- or for all ⟨s, o′⟩ ∈ H, type[group[o]] ≠ type[group[o′]];
+  -- with document 02, Point 1: both over the folders o′ that are not public, and asked of a folder o that is not public
   abbrev pub WallAccess : ℕ → ℕ → Type 0
   WallAccess s o =
-      ((o′ : ℕ) × Accessed s o′ × (folderAt t o .firm ≡ folderAt t o′ .firm))
-      ⊎ ((o′ : ℕ) → Accessed s o′ → rivalsOf t o ≢ rivalsOf t o′)
+      ((o′ : ℕ) × Accessed s o′ × NotPublic t o′ × (folderAt t o .firm ≡ folderAt t o′ .firm))
+      ⊎ ((o′ : ℕ) → Accessed s o′ → NotPublic t o′ → rivalsOf t o ≢ rivalsOf t o′)
 
   abbrev pub Wall : Request → Type 0
-  Wall r = (s o : ℕ) → Access r s o → WallAccess s o
+  Wall r = (s o : ℕ) → Access r s o → NotPublic t o → WallAccess s o
 
   -- the level is a person's current level, the meet of the first level and the levels of all folders that the person has read: what is
   -- at most it is what is at most each of these

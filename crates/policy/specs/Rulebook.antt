@@ -1,4 +1,5 @@
--- Rulebooks (document 01, "Rulebook"): records, what each declares, the checks of loading in their order, and the tables a load gives.
+-- Rulebooks (document 01, "Rulebook", and document 02, Point 1): records, what each declares, the checks of loading in their order, and
+-- the tables a load gives.
 use Prim.Native.Nat.{ℕ, zero, suc, _+_, _*_}
 use mathlib.Core.Bool.{Bool, true, false, cond, not, _&&_, _||_, Bool·beq}
 use mathlib.Core.List.{List, [], _∷_}
@@ -25,6 +26,7 @@ use Rattle.policy.specs.Tables.{
   personDeclared,
   folderDeclared,
   roleDeclared,
+  isPublic,
 }
 
 -- a record, with its fields in the order of its body
@@ -36,17 +38,22 @@ pub data Record : Type 0 where
   folder : (number firm kind level : ℕ) → Record
   role : (number rights : ℕ) → Record
   pair : (p q : ℕ) → Record
+  public : (folder : ℕ) → Record
+
+-- the highest kind of a record
+abbrev pub lastKind : ℕ
+lastKind = 7
 
 -- the kind byte fixes the length of the body
 unfoldable pub bodyLength : ℕ → ℕ
-bodyLength kind = getD (0 ∷ 1 ∷ 2 ∷ 3 ∷ 5 ∷ 9 ∷ 2 ∷ []) kind 0
+bodyLength kind = getD (0 ∷ 1 ∷ 2 ∷ 3 ∷ 5 ∷ 9 ∷ 2 ∷ 1 ∷ []) kind 0
 
 -- the number that little-endian bytes are
 unfoldable pub littleEndian : List ℕ → ℕ
 littleEndian [] = 0
 littleEndian (b ∷ bytes) = b + 256 * littleEndian bytes
 
--- the record of a kind at most 6 and the bytes after the kind byte
+-- the record of a known kind and the bytes after the kind byte
 unfoldable pub recordOf : ℕ → List ℕ → Record
 recordOf kind body =
     getD (end
@@ -56,6 +63,7 @@ recordOf kind body =
     ∷ folder (getD body 0 0) (getD body 1 0) (getD body 2 0) (littleEndian (take 2 (drop 3 body)))
     ∷ role (getD body 0 0) (littleEndian (take 8 (drop 1 body)))
     ∷ pair (getD body 0 0) (getD body 1 0)
+    ∷ public (getD body 0 0)
     ∷ []) kind end
 
 -- each field is in its range
@@ -67,8 +75,9 @@ inRange (person s level) = leb s 63
 inRange (folder o f kind level) = leb o 127 && leb f 63 && leb kind 15
 inRange (role k rights) = leb k 31
 inRange (pair p q) = leb p 15 && leb q 15
+inRange (public o) = leb o 127
 
--- the number, or the pair, is declared already
+-- the number, or the pair, is declared already; the folder is marked already
 unfoldable pub declaredBefore : Tables → Record → Bool
 declaredBefore t end = false
 declaredBefore t (rules mask) = false
@@ -77,6 +86,7 @@ declaredBefore t (person s level) = personDeclared t s
 declaredBefore t (folder o f kind level) = folderDeclared t o
 declaredBefore t (role k rights) = roleDeclared t k
 declaredBefore t (pair p q) = enables t p q
+declaredBefore t (public o) = isPublic t o
 
 -- a folder's firm stands earlier
 unfoldable pub firmStands : Tables → Record → Bool
@@ -87,6 +97,18 @@ firmStands t (person s level) = true
 firmStands t (folder o f kind level) = firmDeclared t f
 firmStands t (role k rights) = true
 firmStands t (pair p q) = true
+firmStands t (public o) = true
+
+-- a folder that is marked public stands earlier
+unfoldable pub folderStands : Tables → Record → Bool
+folderStands t end = true
+folderStands t (rules mask) = true
+folderStands t (firm f class) = true
+folderStands t (person s level) = true
+folderStands t (folder o f kind level) = true
+folderStands t (role k rights) = true
+folderStands t (pair p q) = true
+folderStands t (public o) = folderDeclared t o
 
 -- a pair whose second step is 0
 unfoldable pub entersCreate : Record → Bool
@@ -97,20 +119,26 @@ entersCreate (person s level) = false
 entersCreate (folder o f kind level) = false
 entersCreate (role k rights) = false
 entersCreate (pair p q) = eqb q 0
+entersCreate (public o) = false
 
 -- the checks of one record, whose kind byte stands at an offset with the bytes after it; that a byte is left is checked before
 unfoldable pub recordChecks : ℕ → Tables → ℕ → List ℕ → List Check
 recordChecks at t kind body =
-    (leb kind 6 else 2)
+    (leb kind lastKind else 2)
     ∷ (Bool·beq (eqb kind 1) (eqb at 0) else 3)
     ∷ (leb (bodyLength kind) (length body) else 1)
     ∷ (inRange (recordOf kind body) else 4)
     ∷ (not (declaredBefore t (recordOf kind body)) else 5)
     ∷ (firmStands t (recordOf kind body) else 6)
+    ∷ (folderStands t (recordOf kind body) else 19)
     ∷ (not (entersCreate (recordOf kind body)) else 7)
     ∷ []
 
--- the tables with what a record declares
+-- a folder's entry, marked public
+unfoldable pub madePublic : Folder → Folder
+madePublic e = record { declared = e .declared; firm = e .firm; kind = e .kind; level = e .level; public = true }
+
+-- the tables with what a record declares; a folder's record gives an entry that is not marked public
 unfoldable pub declare : Tables → Record → Tables
 declare t end = t
 declare t (rules mask) =
@@ -122,7 +150,7 @@ declare t (person s level) =
     let persons = set (t .persons) s (record { declared = true; level = record { 0 = level } }) in
     record { mask = t .mask; firms = t .firms; persons = persons; folders = t .folders; roles = t .roles; steps = t .steps }
 declare t (folder o f kind level) =
-    let folders = set (t .folders) o (record { declared = true; firm = f; kind = kind; level = record { 0 = level } }) in
+    let folders = set (t .folders) o (record { declared = true; firm = f; kind = kind; level = record { 0 = level }; public = false }) in
     record { mask = t .mask; firms = t .firms; persons = t .persons; folders = folders; roles = t .roles; steps = t .steps }
 declare t (role k rights) =
     let roles = set (t .roles) k (record { declared = true; rights = rights }) in
@@ -130,6 +158,9 @@ declare t (role k rights) =
 declare t (pair p q) =
     let steps = set (t .steps) p (withBit (enabledBy t p) q) in
     record { mask = t .mask; firms = t .firms; persons = t .persons; folders = t .folders; roles = t .roles; steps = steps }
+declare t (public o) =
+    let folders = set (t .folders) o (madePublic (folderAt t o)) in
+    record { mask = t .mask; firms = t .firms; persons = t .persons; folders = folders; roles = t .roles; steps = t .steps }
 
 -- a way from step p to step q by pairs, all of whose inner steps are below k
 unfoldable pub reaches : Tables → ℕ → ℕ → ℕ → Bool
@@ -198,7 +229,7 @@ unfoldable pub folderGiven : Tables → Folder → Bool
 folderGiven t o =
     cond (o .declared)
     (firmDeclared t (o .firm) && leb (o .kind) 15)
-    (eqb (o .firm) 0 && eqb (o .kind) 0 && eqb (o .level .0) 0)
+    (eqb (o .firm) 0 && eqb (o .kind) 0 && eqb (o .level .0) 0 && not (o .public))
 
 unfoldable pub roleGiven : Role → Bool
 roleGiven k = k .declared || eqb (k .rights) 0

@@ -1,4 +1,4 @@
--- The four rules (document 01, "Four rules") over the tables and the set H of the requests granted so far.
+-- The four rules (document 01, "Four rules", and document 02, Point 1) over the tables and the set H of the requests granted so far.
 use Prim.Native.Nat.{ℕ, zero, suc, _+_}
 use mathlib.Core.Bool.{Bool, true, cond, not, _&&_, _||_}
 use lib.Dec.{eqb, leb}
@@ -16,6 +16,7 @@ use Rattle.policy.specs.Tables.{
   folderDeclared,
   roleDeclared,
   classOf,
+  isPublic,
 }
 
 -- the persons and folder of a request are declared, and its step is at most 15
@@ -38,6 +39,10 @@ someRequest p s =
     anyBelow 128 (λ o. p (read s o) || p (write s o) || anyBelow 16 (λ q. p (step s q o)))
     || anyBelow 64 (λ u. p (start s u))
 
+-- firm f has a folder of which p holds
+unfoldable pub firmOfSome : Tables → (ℕ → Bool) → ℕ → Bool
+firmOfSome t p f = anyBelow 128 (λ o. p o && eqb (folderAt t o .firm) f)
+
 module _ (t : Tables) (H : Request → Bool) where
   -- r is in the set; a request of an undeclared person or folder is passed over, by every rule and by standing
   unfoldable pub did : Request → Bool
@@ -47,16 +52,26 @@ module _ (t : Tables) (H : Request → Bool) where
   unfoldable pub accessed : ℕ → ℕ → Bool
   accessed s o = did (read s o) || did (write s o) || anyBelow 16 (λ p. did (step s p o))
 
-  -- person s accessed some folder of firm f
+  -- person s accessed some folder of firm f, public or not: the firms opened, of standing
   unfoldable pub opened : ℕ → ℕ → Bool
-  opened s f = anyBelow 128 (λ o. accessed s o && eqb (folderAt t o .firm) f)
+  opened s f = firmOfSome t (accessed s) f
 
-  -- every folder that person s accessed is in another class
+  -- folder o counts in the wall's test of person s: the person accessed it, and it is not public. Public folders are the published
+  -- model's sanitized data: of the model that 001 cites for its wall (4.1, reference 7), since 001 itself has no term for them
+  unfoldable pub counts : ℕ → ℕ → Bool
+  counts s o = accessed s o && not (isPublic t o)
+
+  -- the wall counts firm f for person s: some folder of it counts
+  unfoldable pub counted : ℕ → ℕ → Bool
+  counted s f = firmOfSome t (counts s) f
+
+  -- every folder that counts is in another class
   unfoldable pub otherClass : ℕ → ℕ → Bool
-  otherClass s class = allBelow 128 (λ o. accessed s o implies not (eqb (classOf t o) class))
+  otherClass s class = allBelow 128 (λ o. counts s o implies not (eqb (classOf t o) class))
 
+  -- an access to a public folder passes; to another one, by the folders that count
   unfoldable pub wallAccess : ℕ → ℕ → Bool
-  wallAccess s o = opened s (folderAt t o .firm) || otherClass s (classOf t o)
+  wallAccess s o = isPublic t o || (counted s (folderAt t o .firm) || otherClass s (classOf t o))
 
   -- the wall
   unfoldable pub wall : Request → Bool

@@ -18,7 +18,7 @@ abbrev pub noPerson : Person
 noPerson = record { declared = false; level = record { 0 = 0 } }
 
 abbrev pub noFolder : Folder
-noFolder = record { declared = false; firm = 0; kind = 0; level = record { 0 = 0 } }
+noFolder = record { declared = false; firm = 0; kind = 0; level = record { 0 = 0 }; public = false }
 
 abbrev pub noRole : Role
 noRole = record { declared = false; rights = 0 }
@@ -68,6 +68,10 @@ folderDeclared t o = ltb o 128 && folderAt t o .declared
 
 unfoldable pub roleDeclared : Tables → ℕ → Bool
 roleDeclared t k = ltb k 32 && roleAt t k .declared
+
+-- a folder is marked public (document 02, Point 1)
+abbrev pub isPublic : Tables → ℕ → Bool
+isPublic t o = folderAt t o .public
 
 -- the class of rivals of a folder's firm
 unfoldable pub classOf : Tables → ℕ → ℕ

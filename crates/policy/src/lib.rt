@@ -24,12 +24,13 @@ pub struct Person {
     pub level: Level,
 }
 
-// A folder, the firm that it belongs to, its kind and its level.
+// A folder, the firm that it belongs to, its kind, its level, and whether it is public (document 02, Point 1).
 pub struct Folder {
     pub declared: bool,
     pub firm: u8,
     pub kind: u8,
     pub level: Level,
+    pub public: bool,
 }
 
 // A role and the set of its rights: bit r for right r.

@@ -1,4 +1,4 @@
-// The published numbers: document 01's table of causes.
+// The published numbers: document 01's table of causes, and document 02's numbers from 19 on.
 
 // Granted, and loaded.
 pub const GRANTED: u8 = 0;
@@ -6,7 +6,7 @@ pub const GRANTED: u8 = 0;
 // No byte left, or body cut short.
 pub const BOOK_CUT: u8 = 1;
 
-// Kind above 6.
+// Kind above 7.
 pub const UNKNOWN_KIND: u8 = 2;
 
 // Kind 1 not first, or again.
@@ -56,3 +56,6 @@ pub const PIPELINE: u8 = 17;
 
 // Fewer answer bytes than answers due.
 pub const TOO_FEW_ANSWERS: u8 = 18;
+
+// Folder marked public, but not declared earlier.
+pub const FOLDER_NOT_DECLARED: u8 = 19;

@@ -26,7 +26,9 @@ and-where false b c h = refl
 folder-is : (t : Tables) (o : Folder) → folderGivenAmong (t .firms) o ≡ folderGiven t o
 unfolding folderGivenAmong folderGivenBy folderGiven firmDeclared
 folder-is t o =
-    ap (λ (b : Bool). cond (o .declared) (b && leb (o .kind) 15) (eqb (o .firm) 0 && eqb (o .kind) 0 && eqb (o .level .0) 0))
+    ap
+    (λ (b : Bool).
+    cond (o .declared) (b && leb (o .kind) 15) (eqb (o .firm) 0 && eqb (o .kind) 0 && eqb (o .level .0) 0 && not (o .public)))
     (and-where (ltb (o .firm) 64) _ _
     (λ l. within (λ (f : ℕ). getD (t .firms) f noFirm .declared) (o .firm) 64 (ltb-true _ _ l)))
 

@@ -11,10 +11,21 @@ use lib.ListN.{getD, take, drop}
 use lib.Seq.{getD-drop, drop-drop}
 use borrow.Author.Tests.{leb-true}
 use Rattle.bits.proofs.Booleans.{and-left, and-right}
-use Rattle.policy.specs.Rulebook.{Record, end, rules, firm, person, folder, role, pair, littleEndian, recordOf, inRange}
+use Rattle.policy.specs.Rulebook.{Record, end, rules, firm, person, folder, role, pair, public, lastKind, littleEndian, recordOf, inRange}
 use Rattle.rulebook.specs.declared.records.Reading.{Reading}
 use Rattle.rulebook.specs.Readings.{recordRead, Indexes, FieldsRead}
-use Rattle.rulebook.proofs.KindLaws.{record-past, is-past, is-end, is-rules, is-firm, is-person, is-folder, is-role, is-pair}
+use Rattle.rulebook.proofs.KindLaws.{
+  record-past,
+  is-past,
+  is-end,
+  is-rules,
+  is-firm,
+  is-person,
+  is-folder,
+  is-role,
+  is-pair,
+  is-public,
+}
 
 -- ---- the bytes of a body that starts at a position
 
@@ -53,7 +64,7 @@ module _ (s : List ℕ) (at : ℕ) (r : Reading) (unrefused : r .number ≡ 0) w
         indexes = λ h. ranges (ap inRange (sym here) ∙ h);
       }
 
-  pub past-fields : 7 ≤ r .kind → Indexes r → FieldsRead (r .kind) (drop at s) r
+  pub past-fields : lastKind < r .kind → Indexes r → FieldsRead (r .kind) (drop at s) r
   past-fields l i = made end (is-past r l) (record-past (r .kind) (drop at s) l) (λ h. i)
 
   pub end-fields : r .kind ≡ 0 → Indexes r → FieldsRead (r .kind) (drop at s) r
@@ -111,3 +122,8 @@ module _ (s : List ℕ) (at : ℕ) (r : Reading) (unrefused : r .number ≡ 0) w
       (λ h.
       i (up-to (r .p) 15 (and-left (leb (r .p) 15) (leb (r .q) 15) h))
       (up-to (r .q) 15 (and-right (leb (r .p) 15) (leb (r .q) 15) h)))
+
+  pub public-fields : r .kind ≡ 7 → (r .folder < 128 → Indexes r) → r .folder ≡ getD s at 0 → FieldsRead (r .kind) (drop at s) r
+  unfolding recordOf inRange
+  public-fields e i number =
+      made (public (r .folder)) (is-public r e) (rw e (ap public (first s at ∙ sym number))) (λ h. i (up-to (r .folder) 127 h))

@@ -8,7 +8,7 @@ use lib.Dec.{eqb}
 use lib.ListN.{length, getD, drop, length-drop}
 use borrow.Author.Tests.{lt-ltb, le-ltb, le-leb, lt-leb, eqb-false}
 use Rattle.policy.specs.Checks.{ladder}
-use Rattle.policy.specs.Rulebook.{bodyLength, recordOf, inRange}
+use Rattle.policy.specs.Rulebook.{lastKind, bodyLength, recordOf, inRange}
 use Rattle.rulebook.specs.declared.records.Reading.{Reading}
 use Rattle.rulebook.specs.Readings.{BlankRead, formChecks, formNumber, ReadAt}
 
@@ -27,11 +27,11 @@ unfolding formNumber
 no-byte book at l = rw (le-ltb _ _ l)
 
 module _ (book : List ℕ) (at : ℕ) (there : at < length book) where
-  pub unknown-kind : 6 < getD book at 0 → 2 ≡ formNumber book at
+  pub unknown-kind : lastKind < getD book at 0 → 2 ≡ formNumber book at
   unfolding formNumber formChecks ladder
   unknown-kind l = rw (lt-ltb _ _ there, lt-leb _ _ l)
 
-  module _ (known : getD book at 0 ≤ 6) where
+  module _ (known : getD book at 0 ≤ lastKind) where
     pub misplaced : Bool·beq (eqb (getD book at 0) 1) (eqb at 0) ≡ false → 3 ≡ formNumber book at
     unfolding formNumber formChecks ladder
     misplaced m = rw (lt-ltb _ _ there, le-leb _ _ known, m)

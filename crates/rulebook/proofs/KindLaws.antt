@@ -1,15 +1,15 @@
--- The record of each kind: what the definitions look up for a kind that is known, and that a kind which is none of 0 to 6 is past the end
+-- The record of each kind: what the definitions look up for a kind that is known, and that a kind which is none of 0 to 7 is past the end
 -- of what they look it up in.
-use Prim.Native.Nat.{ℕ, suc, _≤_, zero-le}
+use Prim.Native.Nat.{ℕ, suc, _≤_, _<_, zero-le}
 use native.Mathlib.Omega.{arith}
 use mathlib.Core.List.{List, [], _∷_}
 use mathlib.Core.Path.{_≡_}
 use lib.ListN.{getD, take, drop, List·getD-eq-default}
-use Rattle.policy.specs.Rulebook.{end, rules, firm, person, folder, role, pair, bodyLength, littleEndian, recordOf}
+use Rattle.policy.specs.Rulebook.{end, rules, firm, person, folder, role, pair, public, lastKind, bodyLength, littleEndian, recordOf}
 use Rattle.rulebook.specs.declared.records.Reading.{Reading}
 use Rattle.rulebook.specs.Readings.{recordRead}
 
--- ---- kinds above 6
+-- ---- kinds above the last
 
 above : (k b : ℕ) → b ≤ k → (k ≡ b → ⊥) → suc b ≤ k
 above k b l n = omega arith
@@ -23,19 +23,21 @@ module _
     (n4 : k ≡ 4 → ⊥)
     (n5 : k ≡ 5 → ⊥)
     (n6 : k ≡ 6 → ⊥)
+    (n7 : k ≡ 7 → ⊥)
   where
-    pub past-six : 7 ≤ k
-    past-six = above k 6 (above k 5 (above k 4 (above k 3 (above k 2 (above k 1 (above k 0 zero-le n0) n1) n2) n3) n4) n5) n6
+    pub past-last : lastKind < k
+    past-last =
+        above k 7 (above k 6 (above k 5 (above k 4 (above k 3 (above k 2 (above k 1 (above k 0 zero-le n0) n1) n2) n3) n4) n5) n6) n7
 
--- no known kind is above 6
-pub too-high : {k n : ℕ} → n ≤ 6 → k ≡ n → 7 ≤ k → ⊥
+-- no known kind is above the last
+pub too-high : {k n : ℕ} → n ≤ lastKind → k ≡ n → lastKind < k → ⊥
 too-high l e h = omega arith
 
-pub length-past : (k : ℕ) → 7 ≤ k → bodyLength k ≡ 0
+pub length-past : (k : ℕ) → lastKind < k → bodyLength k ≡ 0
 unfolding bodyLength
-length-past k l = List·getD-eq-default (0 ∷ 1 ∷ 2 ∷ 3 ∷ 5 ∷ 9 ∷ 2 ∷ []) 0 l
+length-past k l = List·getD-eq-default (0 ∷ 1 ∷ 2 ∷ 3 ∷ 5 ∷ 9 ∷ 2 ∷ 1 ∷ []) 0 l
 
-pub record-past : (k : ℕ) (body : List ℕ) → 7 ≤ k → recordOf k body ≡ end
+pub record-past : (k : ℕ) (body : List ℕ) → lastKind < k → recordOf k body ≡ end
 unfolding recordOf
 record-past k body l =
     List·getD-eq-default (end
@@ -45,12 +47,13 @@ record-past k body l =
     ∷ folder (getD body 0 0) (getD body 1 0) (getD body 2 0) (littleEndian (take 2 (drop 3 body)))
     ∷ role (getD body 0 0) (littleEndian (take 8 (drop 1 body)))
     ∷ pair (getD body 0 0) (getD body 1 0)
+    ∷ public (getD body 0 0)
     ∷ []) end l
 
 -- ---- the record of a reading, by its kind
 
 module _ (r : Reading) where
-  pub is-past : 7 ≤ r .kind → recordRead r ≡ end
+  pub is-past : lastKind < r .kind → recordRead r ≡ end
   unfolding recordRead
   is-past l =
       List·getD-eq-default (end
@@ -60,6 +63,7 @@ module _ (r : Reading) where
       ∷ folder (r .folder) (r .firm) (r .«folder_kind») (r .level)
       ∷ role (r .role) (r .rights)
       ∷ pair (r .p) (r .q)
+      ∷ public (r .folder)
       ∷ []) end l
 
   pub is-end : r .kind ≡ 0 → recordRead r ≡ end
@@ -89,3 +93,7 @@ module _ (r : Reading) where
   pub is-pair : r .kind ≡ 6 → recordRead r ≡ pair (r .p) (r .q)
   unfolding recordRead
   is-pair e = rw e
+
+  pub is-public : r .kind ≡ 7 → recordRead r ≡ public (r .folder)
+  unfolding recordRead
+  is-public e = rw e

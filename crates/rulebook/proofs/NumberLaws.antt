@@ -12,7 +12,18 @@ use Rattle.bits.specs.Bits.{bit}
 use Rattle.policy.specs.declared.Tables.{Tables}
 use Rattle.policy.specs.Checks.{Check, _else_, ladder}
 use Rattle.policy.specs.Tables.{enabledBy, enables, firmDeclared, personDeclared, folderDeclared, roleDeclared}
-use Rattle.policy.specs.Rulebook.{Record, bodyLength, recordOf, inRange, declaredBefore, firmStands, entersCreate, recordChecks}
+use Rattle.policy.specs.Rulebook.{
+  Record,
+  lastKind,
+  bodyLength,
+  recordOf,
+  inRange,
+  declaredBefore,
+  firmStands,
+  folderStands,
+  entersCreate,
+  recordChecks,
+}
 use Rattle.rulebook.specs.declared.records.Reading.{Reading}
 use Rattle.rulebook.specs.Readings.{
   recordRead,
@@ -24,12 +35,13 @@ use Rattle.rulebook.specs.Readings.{
   knownOf,
   knownBefore,
   knownFirm,
+  knownFolder,
   tableNumber,
   numberOf,
   numberAt,
 }
 use Rattle.rulebook.proofs.TurnLaws.{within}
-use Rattle.rulebook.proofs.KindLaws.{is-past, is-end, is-rules, is-firm, is-person, is-folder, is-role, is-pair}
+use Rattle.rulebook.proofs.KindLaws.{is-past, is-end, is-rules, is-firm, is-person, is-folder, is-role, is-pair, is-public}
 
 -- ---- the checks on the tables
 
@@ -44,7 +56,8 @@ module _ (t : Tables) (r : Reading) (i : Indexes r) where
   before (suc (suc (suc (suc (suc zero))))) e = rw (is-role r e, lt-ltb _ _ (i .role))
   before (suc (suc (suc (suc (suc (suc zero)))))) e =
       rw (is-pair r e) (within (bit (enabledBy t (r .p))) (r .q) 16 (i .enabled))
-  before (suc (suc (suc (suc (suc (suc (suc k))))))) e = rw (is-past r (omega arith))
+  before (suc (suc (suc (suc (suc (suc (suc zero))))))) e = rw (is-public r e)
+  before (suc (suc (suc (suc (suc (suc (suc (suc k)))))))) e = rw (is-past r (omega arith))
 
   stands : (k : ℕ) → r .kind ≡ k → knownFirm (knownOf t r) (recordRead r) ≡ firmStands t (recordRead r)
   unfolding knownFirm knownOf firmStands firmDeclared
@@ -55,17 +68,30 @@ module _ (t : Tables) (r : Reading) (i : Indexes r) where
   stands (suc (suc (suc (suc zero)))) e = rw (is-folder r e, lt-ltb _ _ (i .firm))
   stands (suc (suc (suc (suc (suc zero))))) e = rw (is-role r e)
   stands (suc (suc (suc (suc (suc (suc zero)))))) e = rw (is-pair r e)
-  stands (suc (suc (suc (suc (suc (suc (suc k))))))) e = rw (is-past r (omega arith))
+  stands (suc (suc (suc (suc (suc (suc (suc zero))))))) e = rw (is-public r e)
+  stands (suc (suc (suc (suc (suc (suc (suc (suc k)))))))) e = rw (is-past r (omega arith))
+
+  marks : (k : ℕ) → r .kind ≡ k → knownFolder (knownOf t r) (recordRead r) ≡ folderStands t (recordRead r)
+  unfolding knownFolder knownOf folderStands folderDeclared
+  marks zero e = rw (is-end r e)
+  marks (suc zero) e = rw (is-rules r e)
+  marks (suc (suc zero)) e = rw (is-firm r e)
+  marks (suc (suc (suc zero))) e = rw (is-person r e)
+  marks (suc (suc (suc (suc zero)))) e = rw (is-folder r e)
+  marks (suc (suc (suc (suc (suc zero))))) e = rw (is-role r e)
+  marks (suc (suc (suc (suc (suc (suc zero)))))) e = rw (is-pair r e)
+  marks (suc (suc (suc (suc (suc (suc (suc zero))))))) e = rw (is-public r e, lt-ltb _ _ (i .folder))
+  marks (suc (suc (suc (suc (suc (suc (suc (suc k)))))))) e = rw (is-past r (omega arith))
 
 -- the checks on the tables, as the definition lists them last
 tableChecks : Tables → Record → List Check
 tableChecks t x =
-    (not (declaredBefore t x) else 5) ∷ (firmStands t x else 6) ∷ (not (entersCreate x) else 7) ∷ []
+    (not (declaredBefore t x) else 5) ∷ (firmStands t x else 6) ∷ (folderStands t x else 19) ∷ (not (entersCreate x) else 7) ∷ []
 
 tables-number : (t : Tables) (r : Reading) → Indexes r
     → tableNumber (knownOf t r) (recordRead r) ≡ ladder (tableChecks t (recordRead r))
 unfolding tableNumber tableChecks ladder
-tables-number t r i = rw (before t r i (r .kind) refl, stands t r i (r .kind) refl)
+tables-number t r i = rw (before t r i (r .kind) refl, stands t r i (r .kind) refl, marks t r i (r .kind) refl)
 
 -- ---- all checks
 
@@ -103,7 +129,7 @@ split-number book at t = by (ltb at (length book))
         (ladder (tableChecks t (recordOf kind body)))
         (cond b (ladder (formChecks at kind body)) 1)
     by true =
-        form-first (leb kind 6) (Bool·beq (eqb kind 1) (eqb at 0)) (leb (bodyLength kind) (length body))
+        form-first (leb kind lastKind) (Bool·beq (eqb kind 1) (eqb at 0)) (leb (bodyLength kind) (length body))
         (inRange (recordOf kind body)) (tableChecks t (recordOf kind body))
     by false = refl
 

@@ -1,7 +1,7 @@
 -- The entries that a record declares, and the parts of the test for tables that a load gives, over the arrays of the tables. That these
 -- are the parts of the definition is proved in proofs/EntryLaws.antt.
 use Prim.Native.Nat.{ℕ, _%_}
-use mathlib.Core.Bool.{Bool, true, cond, _&&_}
+use mathlib.Core.Bool.{Bool, true, false, cond, not, _&&_}
 use mathlib.Core.List.{List}
 use lib.Dec.{eqb, ltb, leb}
 use lib.ListN.{getD}
@@ -21,7 +21,7 @@ abbrev pub newPerson : ℕ → Person
 newPerson level = record { declared = true; level = record { 0 = level } }
 
 abbrev pub newFolder : ℕ → ℕ → ℕ → Folder
-newFolder f kind level = record { declared = true; firm = f; kind = kind; level = record { 0 = level } }
+newFolder f kind level = record { declared = true; firm = f; kind = kind; level = record { 0 = level }; public = false }
 
 abbrev pub newRole : ℕ → Role
 newRole rights = record { declared = true; rights = rights }
@@ -41,7 +41,7 @@ unfoldable pub folderGivenBy : Bool → Folder → Bool
 folderGivenBy declared o =
     cond (o .declared)
     (ltb (o .firm) 64 && declared && leb (o .kind) 15)
-    (eqb (o .firm) 0 && eqb (o .kind) 0 && eqb (o .level .0) 0)
+    (eqb (o .firm) 0 && eqb (o .kind) 0 && eqb (o .level .0) 0 && not (o .public))
 
 -- the same, with the entry of the firm looked up modulo 64
 unfoldable pub folderGivenAmong : List Firm → Folder → Bool

@@ -8,7 +8,7 @@ use lib.ListN.{length, getD, drop}
 use Rattle.bits.specs.Bits.{bit}
 use Rattle.policy.specs.declared.Tables.{Tables}
 use Rattle.policy.specs.Checks.{Check, _else_, ladder}
-use Rattle.policy.specs.Tables.{firmAt, personAt, folderAt, roleAt, enabledBy}
+use Rattle.policy.specs.Tables.{firmAt, personAt, folderAt, roleAt, enabledBy, isPublic}
 use Rattle.policy.specs.Rulebook.{
   Record,
   end,
@@ -18,6 +18,8 @@ use Rattle.policy.specs.Rulebook.{
   folder,
   role,
   pair,
+  public,
+  lastKind,
   bodyLength,
   recordOf,
   inRange,
@@ -37,6 +39,7 @@ recordRead r =
     ∷ folder (r .folder) (r .firm) (r .«folder_kind») (r .level)
     ∷ role (r .role) (r .rights)
     ∷ pair (r .p) (r .q)
+    ∷ public (r .folder)
     ∷ []) (r .kind) end
 
 -- every number of a reading is in the range of its table
@@ -63,7 +66,7 @@ pub record FieldsRead (kind : ℕ) (body : List ℕ) (r : Reading) : Type 0 wher
 -- the checks of a record in which the tables have no part
 unfoldable pub formChecks : ℕ → ℕ → List ℕ → List Check
 formChecks at kind body =
-    (leb kind 6 else 2)
+    (leb kind lastKind else 2)
     ∷ (Bool·beq (eqb kind 1) (eqb at 0) else 3)
     ∷ (leb (bodyLength kind) (length body) else 1)
     ∷ (inRange (recordOf kind body) else 4)
@@ -76,7 +79,7 @@ formNumber book at = cond (ltb at (length book)) (ladder (formChecks at (getD bo
 -- a whole record at an offset
 pub record WholeRead (book : List ℕ) (at : ℕ) (r : Reading) : Type 0 where
   pub there : at < length book
-  pub known : getD book at 0 ≤ 6
+  pub known : getD book at 0 ≤ lastKind
   pub same-kind : r .kind ≡ getD book at 0
   pub same : recordRead r ≡ recordOf (getD book at 0) (drop (at + 1) book)
   pub next : r .next ≡ at + 1 + bodyLength (getD book at 0)
@@ -94,11 +97,12 @@ knownOf t r =
       firm = firmAt t (r .firm) .declared;
       person = personAt t (r .person) .declared;
       folder = folderAt t (r .folder) .declared;
+      public = isPublic t (r .folder);
       role = roleAt t (r .role) .declared;
       steps = enabledBy t (r .p);
     }
 
--- the number, or the pair, is declared already
+-- the number, or the pair, is declared already; the folder is marked already
 unfoldable pub knownBefore : Known → Record → Bool
 knownBefore k end = false
 knownBefore k (rules mask) = false
@@ -107,6 +111,7 @@ knownBefore k (person s level) = k .person
 knownBefore k (folder o f kind level) = k .folder
 knownBefore k (role n rights) = k .role
 knownBefore k (pair p q) = bit (k .steps) (q % 16)
+knownBefore k (public o) = k .public
 
 -- a folder's firm stands earlier
 unfoldable pub knownFirm : Known → Record → Bool
@@ -117,11 +122,27 @@ knownFirm k (person s level) = true
 knownFirm k (folder o f kind level) = k .firm
 knownFirm k (role n rights) = true
 knownFirm k (pair p q) = true
+knownFirm k (public o) = true
+
+-- a folder that is marked public stands earlier
+unfoldable pub knownFolder : Known → Record → Bool
+knownFolder k end = true
+knownFolder k (rules mask) = true
+knownFolder k (firm f class) = true
+knownFolder k (person s level) = true
+knownFolder k (folder o f kind level) = true
+knownFolder k (role n rights) = true
+knownFolder k (pair p q) = true
+knownFolder k (public o) = k .folder
 
 -- the number of the first check on the tables that fails, from what is known of them
 unfoldable pub tableNumber : Known → Record → ℕ
 tableNumber k r =
-    ladder ((not (knownBefore k r) else 5) ∷ (knownFirm k r else 6) ∷ (not (entersCreate r) else 7) ∷ [])
+    ladder ((not (knownBefore k r) else 5)
+    ∷ (knownFirm k r else 6)
+    ∷ (knownFolder k r else 19)
+    ∷ (not (entersCreate r) else 7)
+    ∷ [])
 
 -- the number of a reading: of the checks without the tables, and then of those on them
 unfoldable pub numberOf : Reading → Known → ℕ

@@ -1,7 +1,7 @@
 // The entries of the tables: as they stand in the empty book, as a record declares them, and as a load leaves them.
 ghost use mathlib.Core.Path.{_≡_};
 ghost use Rattle.policy.specs.Tables.{emptyTables};
-ghost use Rattle.policy.specs.Rulebook.{firmGiven, personGiven, roleGiven};
+ghost use Rattle.policy.specs.Rulebook.{madePublic, firmGiven, personGiven, roleGiven};
 ghost use Rattle.rulebook.specs.Entries.{
   newFirm,
   newPerson,
@@ -38,6 +38,7 @@ pub fn empty() -> Tables
         firm: 0,
         kind: 0,
         level: Level(0),
+        public: false,
     };
     let role = Role {
         declared: false,
@@ -58,7 +59,7 @@ pub fn empty() -> Tables
     }
 }
 
-// The entries that a record declares.
+// The entries that a record declares; a folder is not public, until a record of its own marks it so.
 pub fn new_firm(class: u8) -> Firm
     ensures { λ r. ⌜ r ≡ newFirm class ⌝ }
 {
@@ -85,7 +86,17 @@ pub fn new_folder(firm: u8, kind: u8, level: u16) -> Folder
         firm: firm,
         kind: kind,
         level: Level(level),
+        public: false,
     }
+}
+
+// A folder's entry, marked public.
+pub fn made_public(o: Folder) -> Folder
+    ensures { λ r. ⌜ r ≡ madePublic o ⌝ }
+{
+    let mut marked = o;
+    marked.public = true;
+    marked
 }
 
 pub fn new_role(rights: u64) -> Role
@@ -121,7 +132,10 @@ fn folder_given(declared: bool, o: Folder) -> bool
     if o.declared {
         both(both(o.firm < 64, declared), o.kind <= 15)
     } else {
-        both(both(o.firm == 0, o.kind == 0), o.level.0 == 0)
+        both(
+            both(both(o.firm == 0, o.kind == 0), o.level.0 == 0),
+            !o.public,
+        )
     }
 }
 

@@ -57,10 +57,12 @@ pub fn load(book: &[u8]) -> Loaded
         let folder = r.folder;
         let role = r.role;
         let p = r.p;
+        let entry = t.folders[folder];
         let known = Known {
             firm: t.firms[firm].declared,
             person: t.persons[person].declared,
-            folder: t.folders[folder].declared,
+            folder: entry.declared,
+            public: entry.public,
             role: t.roles[role].declared,
             steps: t.steps[p],
         };
@@ -76,7 +78,8 @@ pub fn load(book: &[u8]) -> Loaded
             4 => t.folders[folder] = entries::new_folder(r.firm as u8, r.folder_kind, r.level),
             5 => t.roles[role] = entries::new_role(r.rights),
             6 => t.steps[p] = bits::with_bit16(known.steps, r.q),
-            7..=255 => return refuse(numbers::UNKNOWN_KIND, at),
+            7 => t.folders[folder] = entries::made_public(entry),
+            8..=255 => return refuse(numbers::UNKNOWN_KIND, at),
         }
         at = r.next;
     }

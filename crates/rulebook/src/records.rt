@@ -12,6 +12,9 @@ ghost use Rattle.rulebook.specs.Readings.{recordRead, FieldsRead, ReadAt
 use crate::logic::both;
 use policy::numbers;
 
+// The highest kind of a record.
+const LAST_KIND: u8 = 7;
+
 // A record as it is read: the number that refuses it, or 0, its kind and the fields of its kind, and where the next record starts.
 // Fields that its kind does not have are 0, and so is every field of a refused record.
 pub struct Reading {
@@ -31,11 +34,13 @@ pub struct Reading {
     pub next: usize,
 }
 
-// What the tables hold at the numbers of a reading: whether each is declared, and the set of the steps that step p enables.
+// What the tables hold at the numbers of a reading: whether each is declared, whether the folder is public, and the set of the steps that
+// step p enables.
 pub struct Known {
     pub firm: bool,
     pub person: bool,
     pub folder: bool,
+    pub public: bool,
     pub role: bool,
     pub steps: u16,
 }
@@ -85,7 +90,8 @@ fn body_length(kind: u8) -> usize
         4 => 5,
         5 => 9,
         6 => 2,
-        7..=255 => 0,
+        7 => 1,
+        8..=255 => 0,
     }
 }
 
@@ -145,7 +151,8 @@ fn fields(kind: u8, book: &[u8], at: usize) -> Reading
             r.p = first as usize;
             r.q = second as usize;
         }
-        7..=255 => {}
+        7 => r.folder = first as usize,
+        8..=255 => {}
     }
     r
 }
@@ -163,7 +170,8 @@ fn in_range(r: Reading) -> bool
         4 => both(both(r.folder <= 127, r.firm <= 63), r.folder_kind <= 15),
         5 => r.role <= 31,
         6 => both(r.p <= 15, r.q <= 15),
-        7..=255 => true,
+        7 => r.folder <= 127,
+        8..=255 => true,
     }
 }
 
@@ -175,7 +183,7 @@ pub fn read(book: &[u8], at: usize) -> Reading
         return blank(numbers::BOOK_CUT);
     }
     let kind = book[at];
-    if 6 < kind {
+    if LAST_KIND < kind {
         return blank(numbers::UNKNOWN_KIND);
     }
     if (kind == 1) != (at == 0) {
@@ -194,18 +202,15 @@ pub fn read(book: &[u8], at: usize) -> Reading
     r
 }
 
-// The number of a folder's record.
-fn folder_number(declared: bool, firm: bool) -> u8
-    ensures { λ n. ⌜ n ≡ ladder ((not declared else 5) ∷ (firm else 6) ∷ []) ⌝ }
+// The number of a record that names something which stands earlier: a folder's record its firm, a mark its folder. Where that is missing,
+// the number is `missing`.
+fn naming_number(declared: bool, stands: bool, missing: u8) -> u8
+    ensures { λ n. ⌜ n ≡ ladder ((not declared else 5) ∷ (stands else missing) ∷ []) ⌝ }
 {
     if declared {
         return numbers::DECLARED_BEFORE;
     }
-    if firm {
-        numbers::GRANTED
-    } else {
-        numbers::FIRM_NOT_DECLARED
-    }
+    if stands { numbers::GRANTED } else { missing }
 }
 
 // The number of a pair's record, from the set of the steps that p enables.
@@ -247,9 +252,10 @@ pub fn record_number(r: Reading, known: Known) -> u8
         1 => numbers::GRANTED,
         2 => declared_number(known.firm),
         3 => declared_number(known.person),
-        4 => folder_number(known.folder, known.firm),
+        4 => naming_number(known.folder, known.firm, numbers::FIRM_NOT_DECLARED),
         5 => declared_number(known.role),
         6 => pair_number(known.steps, r.q),
-        7..=255 => 0,
+        7 => naming_number(known.public, known.folder, numbers::FOLDER_NOT_DECLARED),
+        8..=255 => 0,
     }
 }

@@ -1,4 +1,4 @@
--- The wall and the roles over sets are the rules of the definitions: a firm is in the set exactly where the person opened it, a right
+-- The wall and the roles over sets are the rules of the definitions: a firm is in the set exactly where the wall counts it, a right
 -- exactly where the person used it, and a declared folder's firm and kind are within the sets' bounds.
 use Prim.Native.Nat.{ℕ, _%_, _^_, _<_}
 use native.Mathlib.Omega.{arith}
@@ -28,7 +28,7 @@ use Rattle.bits.proofs.Bounds.{any-some, some-any, any-ext, all-at, all-of}
 use Rattle.bits.proofs.BitLaws.{bit-with, with-lt, subset-bit, bit-subset}
 use Rattle.bits.proofs.Masks.{mask-lt, bit-mask, bit-mask-below}
 use Rattle.policy.specs.declared.Tables.{Tables}
-use Rattle.policy.specs.Tables.{firmAt, folderAt, roleAt, folderDeclared, personDeclared, roleDeclared, classOf}
+use Rattle.policy.specs.Tables.{firmAt, folderAt, roleAt, folderDeclared, personDeclared, roleDeclared, classOf, isPublic}
 use Rattle.policy.specs.Rulebook.{given}
 use Rattle.policy.specs.Request.{Request, read, write, start, step, subject}
 use Rattle.policy.specs.Rules.{
@@ -36,8 +36,8 @@ use Rattle.policy.specs.Rules.{
   right,
   did,
   someRequest,
-  accessed,
-  opened,
+  counts,
+  counted,
   otherClass,
   wallAccess,
   used,
@@ -45,27 +45,43 @@ use Rattle.policy.specs.Rules.{
   roles,
 }
 use Rattle.policy.proofs.Requests.{declared-place}
-use Rattle.policy.proofs.Accesses.{some-request, request-some, did-in, accessed-some, access-declared}
+use Rattle.policy.proofs.Accesses.{
+  some-request,
+  request-some,
+  did-in,
+  access-declared,
+  firm-some,
+  some-firm,
+  counts-some,
+}
 use Rattle.policy.proofs.GivenEntries.{folder-firm, folder-kind}
 use Rattle.rules.specs.Sets.{isRival, rivalAmong, wallBy, covers, coversAt, rolesBy}
 
 -- ---- the code's test of the wall
 
-pub wall-some : (t : Tables) (firms o firm f : ℕ) → firm ≡ folderAt t o .firm → bit firms (firm % 64) ≡ false → f < 64
-    → isRival (firmAt t f .class) firms f (firmAt t firm .class) ≡ true → wallBy t firms o ≡ false
+pub wall-public : (t : Tables) (firms o : ℕ) → isPublic t o ≡ true → wallBy t firms o ≡ true
+unfolding wallBy
+wall-public t firms o p = or-left _ _ p
+
+pub wall-own : (t : Tables) (firms o firm : ℕ) → firm ≡ folderAt t o .firm → bit firms (firm % 64) ≡ true → wallBy t firms o ≡ true
+unfolding wallBy
+wall-own t firms o firm e b = or-right (isPublic t o) _ (or-left _ _ (rw e at b))
+
+pub wall-some : (t : Tables) (firms o firm f : ℕ) → isPublic t o ≡ false → firm ≡ folderAt t o .firm → bit firms (firm % 64) ≡ false
+    → f < 64 → isRival (firmAt t f .class) firms f (firmAt t firm .class) ≡ true → wallBy t firms o ≡ false
 unfolding wallBy rivalAmong classOf
-wall-some t firms o firm f e b l r =
+wall-some t firms o firm f n e b l r =
     let b′ : bit firms (folderAt t o .firm % 64) ≡ false = rw e at b in
     let r′ : isRival (firmAt t f .class) firms f (firmAt t (folderAt t o .firm) .class) ≡ true = rw e at r in
-    rw (b′, some-any 64 (rivalAmong t firms (firmAt t (folderAt t o .firm) .class)) f l r′)
+    rw (n, b′, some-any 64 (rivalAmong t firms (firmAt t (folderAt t o .firm) .class)) f l r′)
 
-pub wall-none : (t : Tables) (firms o firm : ℕ) → firm ≡ folderAt t o .firm → bit firms (firm % 64) ≡ false
+pub wall-none : (t : Tables) (firms o firm : ℕ) → isPublic t o ≡ false → firm ≡ folderAt t o .firm → bit firms (firm % 64) ≡ false
     → anyBelow 64 (rivalAmong t firms (firmAt t firm .class)) ≡ false → wallBy t firms o ≡ true
 unfolding wallBy classOf
-wall-none t firms o firm e b n =
+wall-none t firms o firm n e b none =
     let b′ : bit firms (folderAt t o .firm % 64) ≡ false = rw e at b in
-    let n′ : anyBelow 64 (rivalAmong t firms (firmAt t (folderAt t o .firm) .class)) ≡ false = rw e at n in
-    rw (b′, n′)
+    let none′ : anyBelow 64 (rivalAmong t firms (firmAt t (folderAt t o .firm) .class)) ≡ false = rw e at none in
+    rw (n, b′, none′)
 
 -- ---- the wall
 
@@ -75,51 +91,51 @@ both-taken true b e = (refl, e)
 both-taken false b e = absurd (false-elim false refl e)
 
 module _ (t : Tables) (H : Request → Bool) (s : ℕ) where
-  -- a firm in the set was opened by an access to one of its folders
-  in-set : (f : ℕ) → f < 64 → bit (maskBelow 64 (opened t H s)) (f % 64) ≡ opened t H s f
+  -- a firm is in the set where some folder of it counts
+  in-set : (f : ℕ) → f < 64 → bit (maskBelow 64 (counted t H s)) (f % 64) ≡ counted t H s f
   in-set f l =
       let own : f % 64 ≡ f = omega arith in
-      ap (bit (maskBelow 64 (opened t H s))) own ∙ bit-mask-below 64 (opened t H s) f l
+      ap (bit (maskBelow 64 (counted t H s))) own ∙ bit-mask-below 64 (counted t H s) f l
 
-  -- some firm of the set is of the class: some folder accessed is
-  rival-accessed : (class : ℕ) → anyBelow 64 (rivalAmong t (maskBelow 64 (opened t H s)) class) ≡ true → otherClass t H s class ≡ false
-  unfolding rivalAmong isRival otherClass opened classOf
-  rival-accessed class e =
-      let (f, l, w) = any-some 64 (rivalAmong t (maskBelow 64 (opened t H s)) class) e in
+  -- some firm of the set is of the class: some folder that counts is
+  rival-counted : (class : ℕ) → anyBelow 64 (rivalAmong t (maskBelow 64 (counted t H s)) class) ≡ true → otherClass t H s class ≡ false
+  unfolding rivalAmong isRival otherClass counted classOf
+  rival-counted class e =
+      let (f, l, w) = any-some 64 (rivalAmong t (maskBelow 64 (counted t H s)) class) e in
       let (same-class, member) = both-taken (eqb (firmAt t f .class) class) _ w in
-      let (o, k, a) = any-some 128 (λ o. accessed t H s o && eqb (folderAt t o .firm) f) (sym (in-set f l) ∙ member) in
-      let of-firm = eqb-true (folderAt t o .firm) f (and-right (accessed t H s o) _ a) in
+      let (o, k, c, of-firm) = firm-some t (counts t H s) f (sym (in-set f l) ∙ member) in
       false-intro (otherClass t H s class) (λ all.
       let other =
-      implies-elim (accessed t H s o) _ (all-at 128 (λ o. accessed t H s o implies not (eqb (classOf t o) class)) all o k)
-      (and-left (accessed t H s o) _ a) in
+      implies-elim (counts t H s o) _ (all-at 128 (λ o. counts t H s o implies not (eqb (classOf t o) class)) all o k) c in
       false-elim (eqb (classOf t o) class) (not-true _ other)
-      (ap (λ (i : ℕ). eqb (firmAt t i .class) class) of-firm ∙ same-class))
+      (ap (λ (i : ℕ). eqb (firmAt t i .class) class) (sym of-firm) ∙ same-class))
 
   module _ (ok : given t ≡ true) where
-    -- no firm of the set is of the class: no folder accessed is
-    no-rival : (class : ℕ) → anyBelow 64 (rivalAmong t (maskBelow 64 (opened t H s)) class) ≡ false → otherClass t H s class ≡ true
-    unfolding rivalAmong isRival otherClass opened classOf
+    -- no firm of the set is of the class: no folder that counts is
+    no-rival : (class : ℕ) → anyBelow 64 (rivalAmong t (maskBelow 64 (counted t H s)) class) ≡ false → otherClass t H s class ≡ true
+    unfolding rivalAmong isRival otherClass counted classOf
     no-rival class none =
-        all-of 128 (λ o. accessed t H s o implies not (eqb (classOf t o) class)) (λ o l.
-        implies-intro (accessed t H s o) _ (λ a.
-        let (r, h, access) = accessed-some t H s o a in
+        all-of 128 (λ o. counts t H s o implies not (eqb (classOf t o) class)) (λ o l.
+        implies-intro (counts t H s o) _ (λ c.
+        let (r, h, access) = counts-some t H s o c .0 in
         let small = folder-firm t ok o (access-declared t r s o (h .0) access) in
         let f = folderAt t o .firm in
-        let member = some-any 128 (λ o. accessed t H s o && eqb (folderAt t o .firm) f) o l (and-both _ _ a (eq-eqb f f refl)) in
+        let member = some-firm t (counts t H s) f o l c refl in
         ap not
-        (false-intro (eqb (classOf t o) class) (λ c.
-        false-elim (anyBelow 64 (rivalAmong t (maskBelow 64 (opened t H s)) class)) none
-        (some-any 64 (rivalAmong t (maskBelow 64 (opened t H s)) class) f small (rw c (in-set f small ∙ member)))))))
+        (false-intro (eqb (classOf t o) class) (λ same.
+        false-elim (anyBelow 64 (rivalAmong t (maskBelow 64 (counted t H s)) class)) none
+        (some-any 64 (rivalAmong t (maskBelow 64 (counted t H s)) class) f small (rw same (in-set f small ∙ member)))))))
 
-    rivals : (class : ℕ) → not (anyBelow 64 (rivalAmong t (maskBelow 64 (opened t H s)) class)) ≡ otherClass t H s class
+    rivals : (class : ℕ) → not (anyBelow 64 (rivalAmong t (maskBelow 64 (counted t H s)) class)) ≡ otherClass t H s class
     rivals class =
-        ⊎-elim (λ y. ap not y ∙ sym (rival-accessed class y)) (λ n. ap not n ∙ sym (no-rival class n))
-        (decide (anyBelow 64 (rivalAmong t (maskBelow 64 (opened t H s)) class)))
+        ⊎-elim (λ y. ap not y ∙ sym (rival-counted class y)) (λ n. ap not n ∙ sym (no-rival class n))
+        (decide (anyBelow 64 (rivalAmong t (maskBelow 64 (counted t H s)) class)))
 
-    pub wall-by : (o : ℕ) → folderDeclared t o ≡ true → wallBy t (maskBelow 64 (opened t H s)) o ≡ wallAccess t H s o
+    pub wall-by : (o : ℕ) → folderDeclared t o ≡ true → wallBy t (maskBelow 64 (counted t H s)) o ≡ wallAccess t H s o
     unfolding wallBy wallAccess
-    wall-by o known = ap₂ _||_ (in-set (folderAt t o .firm) (folder-firm t ok o known)) (rivals (classOf t o))
+    wall-by o known =
+        ap (λ (b : Bool). isPublic t o || b)
+        (ap₂ _||_ (in-set (folderAt t o .firm) (folder-firm t ok o known)) (rivals (classOf t o)))
 
     -- ---- roles
 

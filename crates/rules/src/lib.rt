@@ -1,4 +1,4 @@
-// The wall and the roles (document 01, "Four rules"), over the tables and the sets of what a person did.
+// The wall and the roles (document 01, "Four rules", and document 02, Point 1), over the tables and the sets of what a person did.
 ghost use mathlib.Core.Path.{_≡_};
 ghost use mathlib.Core.Bool.{true};
 ghost use Rattle.policy.specs.Tables.{folderDeclared};
@@ -20,12 +20,15 @@ fn is_rival(e: Firm, firms: u64, f: usize, class: u8) -> bool
     }
 }
 
-// Whether the wall permits a person who opened these firms an access to folder o.
+// Whether the wall permits a person, for whom it counts these firms, an access to folder o. A public folder is passed.
 pub fn wall_permits(t: &Words, firms: u64, o: usize) -> bool
     requires { ⌜ (given (tablesOf (now t)) ≡ true) × (folderDeclared (tablesOf (now t)) o ≡ true) ⌝ }
     ensures { λ r. ⌜ r ≡ wallBy (tablesOf (now (t .entry))) firms o ⌝ }
 {
     let e = packed::folder(t, o);
+    if e.public {
+        return true;
+    }
     let firm = bits::wide(e.firm);
     if bits::bit64(firms, firm) {
         return true;

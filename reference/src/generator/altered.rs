@@ -107,7 +107,7 @@ impl Generator {
             self.put(&record);
         }
         for place in 0..changes {
-            let which = (place % 12) as u8;
+            let which = (place % 13) as u8;
             let index = self.some_index(which);
             let value = self.some_value(which, index);
             let before = field(&self.player.tables, which, index);
@@ -158,7 +158,7 @@ impl Generator {
         let declared: Vec<u8> = match which {
             1 | 2 => (0..64).filter(|firm| tables.firm_declared(*firm)).collect(),
             3 | 4 => self.declared_persons(),
-            5..=8 => self.declared_folders(),
+            5..=8 | 12 => self.declared_folders(),
             9 | 10 => (0..32)
                 .filter(|role| tables.roles[usize::from(*role)].declared)
                 .collect(),
@@ -177,7 +177,7 @@ impl Generator {
         let any = self.random.number();
         match which {
             0 => self.random.pick(&[0, 7, 15, 16, 17, 128, 255, 256 + 9]),
-            1 | 3 | 5 | 9 => self.random.pick(&[0, 0, 1, 256, any]),
+            1 | 3 | 5 | 9 | 12 => self.random.pick(&[0, 0, 1, 256, any]),
             2 => self.random.pick(&[0, 1, 31, 32, 33, 255, 256 + 31]),
             4 | 8 => self.random.pick(&[0, 0, 65_535, 65_536, any]),
             6 => {
@@ -191,7 +191,7 @@ impl Generator {
     }
 
     /// The firm of some declared folder.
-    fn some_folder_firm(&self) -> u64 {
+    pub fn some_folder_firm(&self) -> u64 {
         match self.declared_folders().first() {
             Some(folder) => u64::from(self.player.tables.folder(*folder).firm),
             None => 0,
@@ -226,7 +226,7 @@ impl Generator {
         self.after_undeclaring(person);
         let folders = self.declared_folders();
         let folder = self.random.pick(&folders);
-        for which in [6, 7, 8, 5] {
+        for which in [6, 7, 8, 12, 5] {
             self.field(which, folder, 0);
         }
         self.after_undeclaring(person);

@@ -10,6 +10,8 @@ pub struct Plan {
     pub classes: usize,
     pub persons: usize,
     pub folders: usize,
+    /// How many folders in a hundred are public.
+    pub public: usize,
     pub roles: usize,
     /// How many rights in a hundred a role has, one of these for each role.
     pub rights: &'static [usize],
@@ -18,6 +20,9 @@ pub struct Plan {
 
 /// Wide roles, so that much is granted, and some narrow ones.
 const WIDE_AND_NARROW: &[usize] = &[97, 97, 90, 90, 70, 40, 10];
+
+/// Shares of public folders: few, some or many.
+const PUBLIC: &[usize] = &[15, 30, 45];
 
 /// Roles that refuse much.
 const NARROW: &[usize] = &[85, 70, 50];
@@ -30,6 +35,7 @@ impl Plan {
             classes: random.between(1, 4),
             persons: random.between(2, 6),
             folders: random.between(4, 10),
+            public: random.pick(PUBLIC),
             roles: random.between(1, 4),
             rights: WIDE_AND_NARROW,
             steps: random.between(3, 8),
@@ -43,6 +49,7 @@ impl Plan {
             classes: random.between(4, 14),
             persons: random.between(6, 20),
             folders: random.between(16, 48),
+            public: random.pick(PUBLIC),
             roles: random.between(3, 10),
             rights: WIDE_AND_NARROW,
             steps: random.between(6, 12),
@@ -70,6 +77,7 @@ impl Plan {
             classes: 32,
             persons: 64,
             folders: 128,
+            public: 30,
             roles: 32,
             rights: WIDE_AND_NARROW,
             steps: 16,
@@ -93,7 +101,7 @@ pub fn joined(records: &[Vec<u8>]) -> Vec<u8> {
 }
 
 /// The records of a good book without its end: the mask, then the others in
-/// any order, but each folder after its firm.
+/// any order, but each folder after its firm and each mark after its folder.
 pub fn good_records(random: &mut Random, plan: &Plan) -> Vec<Vec<u8>> {
     // Each record gets a key by which they are put in order.
     let mut keyed: Vec<(usize, Vec<u8>)> = Vec::new();
@@ -117,6 +125,9 @@ pub fn good_records(random: &mut Random, plan: &Plan) -> Vec<Vec<u8>> {
         let kind = random.below(16) as u8;
         let key = firm_keys[place] + 1 + random.below(1000);
         keyed.push((key, vec![4, folder, firms[place], kind, level[0], level[1]]));
+        if random.chance(plan.public) {
+            keyed.push((key + 1 + random.below(1000), vec![7, folder]));
+        }
     }
     for role in random.some_below(32, plan.roles) {
         let mut record = vec![5, role];
@@ -196,6 +207,7 @@ pub fn bad_ends(random: &mut Random, records: &[Vec<u8>]) -> Vec<Vec<u8>> {
     ends.extend(out_of_range(random, records));
     ends.extend(declared_again(random, records));
     ends.extend(undeclared_firms(random, records));
+    ends.extend(undeclared_folders(random, records));
     ends.extend(bad_pairs(random));
     for end in &mut ends {
         if random.chance(60) {
@@ -208,8 +220,8 @@ pub fn bad_ends(random: &mut Random, records: &[Vec<u8>]) -> Vec<Vec<u8>> {
     }
     // The book that simply stops, and each body cut: nothing may follow.
     ends.push(Vec::new());
-    for kind in 2..=6 {
-        let length = [2, 3, 5, 9, 2][kind as usize - 2];
+    for kind in 2..=7 {
+        let length = [2, 3, 5, 9, 2, 1][kind as usize - 2];
         let mut cut = vec![kind];
         for _ in 0..random.below(length) {
             cut.push(random.byte());
@@ -225,7 +237,7 @@ fn cut_ends(random: &mut Random) -> Vec<Vec<u8>> {
 }
 
 fn unknown_kinds(random: &mut Random) -> Vec<Vec<u8>> {
-    vec![vec![7], vec![255], vec![random.between(8, 254) as u8, 1]]
+    vec![vec![8], vec![255], vec![random.between(9, 254) as u8, 1]]
 }
 
 fn masks_again(random: &mut Random) -> Vec<Vec<u8>> {
@@ -250,6 +262,8 @@ fn out_of_range(random: &mut Random, records: &[Vec<u8>]) -> Vec<Vec<u8>> {
         vec![6, 16, 1],
         vec![6, 1, 16],
         vec![6, random.between(16, 255) as u8, 0],
+        vec![7, 128],
+        vec![7, random.between(129, 255) as u8],
     ];
     // A folder declared before and out of range: 4 stands before 5.
     if let Some(folder) = of_kind(random, records, 4) {
@@ -261,7 +275,7 @@ fn out_of_range(random: &mut Random, records: &[Vec<u8>]) -> Vec<Vec<u8>> {
 /// Each kind of record again, with another body where it may have one.
 fn declared_again(random: &mut Random, records: &[Vec<u8>]) -> Vec<Vec<u8>> {
     let mut ends = Vec::new();
-    for kind in 2..=6 {
+    for kind in 2..=7 {
         if let Some(mut record) = of_kind(random, records, kind) {
             ends.push(record.clone());
             match kind {
@@ -273,6 +287,10 @@ fn declared_again(random: &mut Random, records: &[Vec<u8>]) -> Vec<Vec<u8>> {
             }
             ends.push(record);
         }
+    }
+    // A folder marked twice at the end.
+    if let Some(folder) = of_kind(random, records, 4) {
+        ends.push(vec![7, folder[1], 7, folder[1]]);
     }
     ends
 }
@@ -289,6 +307,31 @@ fn undeclared_firms(random: &mut Random, records: &[Vec<u8>]) -> Vec<Vec<u8>> {
         }
     }
     ends
+}
+
+/// Marks of folders not declared earlier, but perhaps right after.
+fn undeclared_folders(random: &mut Random, records: &[Vec<u8>]) -> Vec<Vec<u8>> {
+    let mut ends = Vec::new();
+    for _ in 0..2 {
+        let folder = random.below(128) as u8;
+        if records.iter().any(|r| r[0] == 4 && r[1] == folder) {
+            continue;
+        }
+        ends.push(vec![7, folder]);
+        if let Some(firm) = of_kind(random, records, 2) {
+            ends.push(vec![7, folder, 4, folder, firm[1], 3, 1, 2]);
+        }
+    }
+    ends
+}
+
+/// The records of a good book with one mark moved before its folder.
+pub fn with_early_mark(random: &mut Random, records: &[Vec<u8>]) -> Option<Vec<Vec<u8>>> {
+    let mark = of_kind(random, records, 7)?;
+    let mut moved: Vec<Vec<u8>> = records.iter().filter(|r| **r != mark).cloned().collect();
+    let folder = moved.iter().position(|r| r[0] == 4 && r[1] == mark[1])?;
+    moved.insert(random.between(1, folder), mark);
+    Some(moved)
 }
 
 /// Pairs that enable "create", circles and steps never enabled; the end

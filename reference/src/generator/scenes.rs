@@ -1,6 +1,6 @@
 //! The scenes that make up a file of calls, and those of books and lists.
 
-use super::books::{bad_ends, good_records, joined, Plan};
+use super::books::{bad_ends, good_records, joined, with_early_mark, Plan};
 use super::Generator;
 use crate::calls::answers_due;
 use crate::marked;
@@ -10,7 +10,8 @@ impl Generator {
         self.before_any_book();
         self.marked_cases();
         self.refused_books();
-        self.cut_and_changed_books();
+        self.cut_and_changed_books(&marked::BOOK);
+        self.cut_and_changed_books(&marked::PUBLIC_BOOK);
         for mask in 0..16 {
             for _ in 0..2 {
                 let plan = Plan::small(&mut self.random, mask);
@@ -42,6 +43,10 @@ impl Generator {
         for mask in [0, 15, 15, 8] {
             let plan = Plan::small(&mut self.random, mask);
             self.changed_tables(&plan, 130);
+        }
+        for mask in [1, 1, 3, 5, 15] {
+            let plan = Plan::small(&mut self.random, mask);
+            self.changed_marks(&plan);
         }
         for _ in 0..8 {
             let plan = Plan::small(&mut self.random, 15);
@@ -115,6 +120,7 @@ impl Generator {
         self.blank();
         self.put(&[19, 1, 2, 2]);
         self.judge(&[19, 1, 2, 2]);
+        self.public_folder();
     }
 
     /// P7 and P8, and the order of levels that have no order.
@@ -173,8 +179,12 @@ impl Generator {
             &[2][..],
             &[2, 0, 0, 1, 15, 0],
             &[3, 0, 0, 0],
+            &[4, 0, 0, 0, 0, 0],
+            &[5],
             &[6, 0, 1],
             &[7],
+            &[7, 0, 1, 15, 0],
+            &[8],
             &[255, 1, 1],
             &[1],
             &[1, 16],
@@ -189,6 +199,11 @@ impl Generator {
             let mask = self.random.below(16) as u8;
             let plan = Plan::small(&mut self.random, mask);
             let mut records = good_records(&mut self.random, &plan);
+            if let Some(early) = with_early_mark(&mut self.random, &records) {
+                let mut book = joined(&early);
+                book.push(0);
+                self.load(&book);
+            }
             let kept = (1 + step * records.len() / 7).min(records.len());
             records.truncate(kept);
             for end in bad_ends(&mut self.random, &records) {
@@ -199,17 +214,17 @@ impl Generator {
         }
     }
 
-    /// The marked book cut at every length, and with each byte changed.
-    fn cut_and_changed_books(&mut self) {
-        for length in 0..marked::BOOK.len() {
-            self.load(&marked::BOOK[..length]);
+    /// A marked book cut at every length, and with each byte changed.
+    fn cut_and_changed_books(&mut self, whole: &[u8]) {
+        for length in 0..whole.len() {
+            self.load(&whole[..length]);
         }
-        for place in 0..marked::BOOK.len() {
+        for place in 0..whole.len() {
             for change in 0..3 {
-                let mut book = marked::BOOK.to_vec();
+                let mut book = whole.to_vec();
                 book[place] = match change {
                     0 => self.random.byte(),
-                    1 => self.random.below(8) as u8,
+                    1 => self.random.below(9) as u8,
                     _ => book[place] ^ (1 << self.random.below(8)),
                 };
                 self.load(&book);

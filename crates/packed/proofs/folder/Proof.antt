@@ -23,9 +23,12 @@ cast-t14 c = search needs
 cast-t17 : tie.Need-cast-t17
 cast-t17 c = search needs
 
+bit64-requires : tie.Need-bit64-requires
+bit64-requires c κs = search needs
+
 returns : tie.Need-returns
 unfolding levelIn folderOf
-returns c = sym (folder-at _ _ (c .before .pre))
+returns c = rw (c .bit64 .ensures) (sym (folder-at _ _ (c .before .before .pre)))
 
 pub folder-spec : {M : Type 1} → statement M
-folder-spec = tie.close (tie.spec mul-x element-copy-out-x cast-t11 cast-t14 cast-t17 returns)
+folder-spec = tie.close (tie.spec mul-x element-copy-out-x cast-t11 cast-t14 cast-t17 bit64-requires returns)

@@ -27,7 +27,7 @@ use Rattle.bits.proofs.with_bit64_if.Reads as with-bit64-if-reads
 -- the answer, of what was gathered on all folders
 answer : (t : Tables) (h : List ℕ) (s : ℕ) → personDeclared t s ≡ true → (gathered : Past) (rights : ℕ) (starts : Bool)
     → gathered ≡ pastBelow t (setOf h) s 128 → starts ≡ started t h s → rights ≡ withBitIf starts (gathered .rights) 32
-    → record { level = gathered .level; rights = rights; firms = gathered .firms } ≡ pastOf t (setOf h) s
+    → record { level = gathered .level; rights = rights; firms = gathered .firms; counted = gathered .counted } ≡ pastOf t (setOf h) s
 answer t h s person gathered rights starts e b r = rw (r, b, e) (past-whole t h s person)
 
 person-requires : tie.Need-person-requires

@@ -1,5 +1,5 @@
--- `wall_permits` is the wall of the mask of firms: the own firm is free, and before each turn no firm below the number reached is a
--- rival.
+-- `wall_permits` is the wall of the mask of firms: a public folder and the own firm are free, and before each turn no firm below the number
+-- reached is a rival.
 use Prim.Native.Nat.{_≤_, _-_}
 use native.Mathlib.Omega.{arith}
 use mathlib.Core.Path.{_≡_, sym, ap, _∙_}
@@ -11,8 +11,8 @@ use Rattle.policy.specs.declared.Folder.{Folder}
 use Rattle.policy.proofs.Requests.{folder-below}
 use Rattle.policy.proofs.GivenEntries.{folder-firm}
 use Rattle.packed.specs.Packed.{tablesOf}
-use Rattle.rules.specs.Sets.{rivalAmong, wallBy}
-use Rattle.rules.proofs.SetLaws.{wall-some, wall-none}
+use Rattle.rules.specs.Sets.{rivalAmong}
+use Rattle.rules.proofs.SetLaws.{wall-public, wall-own, wall-some, wall-none}
 use Rattle.rules.proofs.wall_permits.Statement.{statement}
 use Rattle.rules.proofs.wall_permits.Tie as tie
 use Rattle.rules.proofs.wall_permits.Reads as reads
@@ -32,23 +32,29 @@ abbrev μ-loop : tie.MeasureT-loop
 folder-requires : tie.Need-folder-requires Inv-loop μ-loop
 folder-requires c κs = folder-below _ _ (c .pre .1)
 
+returns : tie.Need-returns Inv-loop μ-loop
+returns c =
+    sym (wall-public _ _ _ (sym (ap (λ (e : Folder). e .public) (c .before .folder .ensures)) ∙ c .if1 .taken))
+
 wide-requires : tie.Need-wide-requires Inv-loop μ-loop
 wide-requires c κs = search needs
 
 bit64-requires : tie.Need-bit64-requires Inv-loop μ-loop
 bit64-requires c κs = search needs
 
-returns : tie.Need-returns Inv-loop μ-loop
-unfolding wallBy
-returns c =
-    let folder = c .before .before .before .folder in
-    rw (← folder .ensures, ← c .before .before .wide .ensures .0, ← c .before .bit64 .ensures, c .if1 .taken)
+returns-2 : tie.Need-returns-2 Inv-loop μ-loop
+returns-2 c =
+    let wide = c .before .before .wide in
+    let folder = c .before .before .before .before .folder in
+    sym
+    (wall-own _ _ _ (wide .result) (wide .ensures .0 ∙ ap (λ (e : Folder). e .firm) (folder .ensures))
+    (sym (c .before .bit64 .ensures) ∙ c .if2 .taken))
 
 firm-requires : tie.Need-firm-requires Inv-loop μ-loop
 firm-requires c κs =
     let wide = c .before .before .wide in
-    let folder = c .before .before .before .folder in
-    let start = c .before .before .before .before in
+    let folder = c .before .before .before .before .folder in
+    let start = c .before .before .before .before .before in
     let small = folder-firm _ (start .pre .0) _ (start .pre .1) in
     omega (arith, wide .ensures .0 ∙ ap (λ (e : Folder). e .firm) (folder .ensures))
 
@@ -61,19 +67,20 @@ firm-requires-2 c κs = search needs
 is-rival-requires : tie.Need-is-rival-requires Inv-loop μ-loop
 is-rival-requires c κs = search needs
 
-returns-2 : tie.Need-returns-2 Inv-loop μ-loop
+returns-3 : tie.Need-returns-3 Inv-loop μ-loop
 unfolding rivalAmong
-returns-2 c =
+returns-3 c =
     let loop = c .before .before .before .before .loop in
     let own = c .before .before .before .before .before .firm in
-    let if1 = c .before .before .before .before .before .before .if1 in
-    let bit64 = c .before .before .before .before .before .before .before .bit64 in
-    let wide = c .before .before .before .before .before .before .before .before .wide in
-    let folder = c .before .before .before .before .before .before .before .before .before .folder in
+    let asked = c .before .before .before .before .before .before in
+    let wide = asked .before .before .wide in
+    let folder = asked .before .before .before .before .folder in
     sym
     (wall-some _ _ _ (wide .result) (loop .f)
-    (wide .ensures .0 ∙ ap (λ (e : Folder). e .firm) (folder .ensures)) (sym (bit64 .ensures) ∙ if1 .left) (omega arith)
-    (rw (← own .ensures, ← c .before .before .firm2 .ensures) (sym (c .before .is-rival .ensures) ∙ c .if2 .taken)))
+    (sym (ap (λ (e : Folder). e .public) (folder .ensures)) ∙ asked .before .before .before .if1 .left)
+    (wide .ensures .0 ∙ ap (λ (e : Folder). e .firm) (folder .ensures)) (sym (asked .before .bit64 .ensures) ∙ asked .if2 .left)
+    (omega arith)
+    (rw (← own .ensures, ← c .before .before .firm2 .ensures) (sym (c .before .is-rival .ensures) ∙ c .if3 .taken)))
 
 add-f : tie.Need-add-f Inv-loop μ-loop
 add-f c = search needs
@@ -86,21 +93,22 @@ unfolding rivalAmong
 loop-again c = (
   search needs,
   any-none _ _ (c .before .before .before .before .loop .inv .1)
-      (rw (← c .before .before .firm2 .ensures) (sym (c .before .is-rival .ensures) ∙ c .if2 .left)),
+      (rw (← c .before .before .firm2 .ensures) (sym (c .before .is-rival .ensures) ∙ c .if3 .left)),
 )
 
-returns-3 : tie.Need-returns-3 Inv-loop μ-loop
-returns-3 c =
+returns-4 : tie.Need-returns-4 Inv-loop μ-loop
+returns-4 c =
     let loop = c .before .loop in
     let own = c .before .before .firm in
-    let if1 = c .before .before .before .if1 in
-    let bit64 = c .before .before .before .before .bit64 in
-    let wide = c .before .before .before .before .before .wide in
-    let folder = c .before .before .before .before .before .before .folder in
+    let asked = c .before .before .before in
+    let wide = asked .before .before .wide in
+    let folder = asked .before .before .before .before .folder in
     let e : loop .f ≡ 64 = omega arith in
     sym
-    (wall-none _ _ _ (wide .result) (wide .ensures .0 ∙ ap (λ (e : Folder). e .firm) (folder .ensures))
-    (sym (bit64 .ensures) ∙ if1 .left) (rw (e, own .ensures) at (loop .inv .1)))
+    (wall-none _ _ _ (wide .result)
+    (sym (ap (λ (e : Folder). e .public) (folder .ensures)) ∙ asked .before .before .before .if1 .left)
+    (wide .ensures .0 ∙ ap (λ (e : Folder). e .firm) (folder .ensures))
+    (sym (asked .before .bit64 .ensures) ∙ asked .if2 .left) (rw (e, own .ensures) at (loop .inv .1)))
 
 pub wall-permits-spec : {M : Type 1} → statement M
 wall-permits-spec =
@@ -109,15 +117,16 @@ wall-permits-spec =
     Inv-loop
     μ-loop
     folder-requires
+    returns
     wide-requires
     bit64-requires
-    returns
+    returns-2
     firm-requires
     loop-holds
     firm-requires-2
     is-rival-requires
-    returns-2
+    returns-3
     add-f
     loop-less
     loop-again
-    returns-3)
+    returns-4)

@@ -1,7 +1,7 @@
--- `records::body_length` gives the length that the definition looks up; past kind 6 both give 0.
+-- `records::body_length` gives the length that the definition looks up; past the last kind both give 0.
 use mathlib.Core.Path.{sym}
 use Rattle.policy.specs.Rulebook.{bodyLength}
-use Rattle.rulebook.proofs.KindLaws.{past-six, length-past}
+use Rattle.rulebook.proofs.KindLaws.{past-last, length-past}
 use Rattle.rulebook.proofs.records.body_length.Statement.{statement}
 use Rattle.rulebook.proofs.records.body_length.Tie as tie
 
@@ -34,13 +34,17 @@ unfolding bodyLength
 returns-7 c = rw (c .match .keys7)
 
 returns-8 : tie.Need-returns-8
-returns-8 c =
+unfolding bodyLength
+returns-8 c = rw (c .match .keys8)
+
+returns-9 : tie.Need-returns-9
+returns-9 c =
     let rest = c .match .rest in
-    let above = past-six _ (rest .0 .0 .0 .0 .0 .0 .1) (rest .0 .0 .0 .0 .0 .1) (rest .0 .0 .0 .0 .1) (rest .0 .0 .0 .1) (rest .0 .0 .1)
-    (rest .0 .1) (rest .1) in
+    let above = past-last _ (rest .0 .0 .0 .0 .0 .0 .0 .1) (rest .0 .0 .0 .0 .0 .0 .1) (rest .0 .0 .0 .0 .0 .1) (rest .0 .0 .0 .0 .1)
+    (rest .0 .0 .0 .1) (rest .0 .0 .1) (rest .0 .1) (rest .1) in
     sym (length-past _ above)
 
 pub body-length-spec : {M : Type 1} → statement M
 body-length-spec =
     tie.close
-    (tie.spec returns returns-2 returns-3 returns-4 returns-5 returns-6 returns-7 returns-8)
+    (tie.spec returns returns-2 returns-3 returns-4 returns-5 returns-6 returns-7 returns-8 returns-9)

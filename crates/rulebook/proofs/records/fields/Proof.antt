@@ -3,7 +3,7 @@ use native.Mathlib.Omega.{arith}
 use denote.Ref.{now}
 use borrow.Author.Needs.{needs}
 use Rattle.policy.specs.Rulebook.{bodyLength}
-use Rattle.rulebook.proofs.KindLaws.{past-six}
+use Rattle.rulebook.proofs.KindLaws.{past-last}
 use Rattle.rulebook.proofs.FieldLaws.{
   in-tables,
   past-fields,
@@ -14,6 +14,7 @@ use Rattle.rulebook.proofs.FieldLaws.{
   folder-fields,
   role-fields,
   pair-fields,
+  public-fields,
 }
 use Rattle.rulebook.proofs.records.fields.Statement.{statement}
 use Rattle.rulebook.proofs.records.fields.Tie as tie
@@ -78,6 +79,9 @@ cast-r-6 c = search needs
 cast-r-7 : tie.Need-cast-r-7
 cast-r-7 c = search needs
 
+cast-r-8 : tie.Need-cast-r-8
+cast-r-8 c = search needs
+
 returns : tie.Need-returns
 returns c =
     let start = c .before .before .before .before .before in
@@ -141,9 +145,17 @@ returns-8 : tie.Need-returns-8
 returns-8 c =
     let start = c .before .before .before .before .before in
     let i = c .before .blank .ensures .indexes in
+    public-fields (now (start .args .book)) (start .args .at) _ (c .before .blank .ensures .number) (c .match .keys8)
+    (λ o. in-tables (i .firm) (i .person) o (i .role) (i .step) (i .enabled))
+    (c .before .before .before .byte .ensures)
+
+returns-9 : tie.Need-returns-9
+returns-9 c =
+    let start = c .before .before .before .before .before in
+    let i = c .before .blank .ensures .indexes in
     let rest = c .match .rest in
-    let above = past-six _ (rest .0 .0 .0 .0 .0 .0 .1) (rest .0 .0 .0 .0 .0 .1) (rest .0 .0 .0 .0 .1) (rest .0 .0 .0 .1) (rest .0 .0 .1)
-    (rest .0 .1) (rest .1) in
+    let above = past-last _ (rest .0 .0 .0 .0 .0 .0 .0 .1) (rest .0 .0 .0 .0 .0 .0 .1) (rest .0 .0 .0 .0 .0 .1) (rest .0 .0 .0 .0 .1)
+    (rest .0 .0 .0 .1) (rest .0 .0 .1) (rest .0 .1) (rest .1) in
     past-fields (now (start .args .book)) (start .args .at) _ (c .before .blank .ensures .number) above
     (in-tables (i .firm) (i .person) (i .folder) (i .role) (i .step) (i .enabled))
 
@@ -170,6 +182,7 @@ fields-spec =
     number64-requires
     cast-r-6
     cast-r-7
+    cast-r-8
     returns
     returns-2
     returns-3
@@ -177,4 +190,5 @@ fields-spec =
     returns-5
     returns-6
     returns-7
-    returns-8)
+    returns-8
+    returns-9)

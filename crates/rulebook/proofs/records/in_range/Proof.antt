@@ -1,7 +1,18 @@
 -- `records::in_range` asks of each field of the reading's kind, as `inRange` does of its record.
 use borrow.Author.Needs.{needs}
 use Rattle.policy.specs.Rulebook.{inRange}
-use Rattle.rulebook.proofs.KindLaws.{past-six, is-past, is-end, is-rules, is-firm, is-person, is-folder, is-role, is-pair}
+use Rattle.rulebook.proofs.KindLaws.{
+  past-last,
+  is-past,
+  is-end,
+  is-rules,
+  is-firm,
+  is-person,
+  is-folder,
+  is-role,
+  is-pair,
+  is-public,
+}
 use Rattle.rulebook.proofs.records.in_range.Statement.{statement}
 use Rattle.rulebook.proofs.records.in_range.Tie as tie
 
@@ -60,9 +71,15 @@ returns-7 c =
 returns-8 : tie.Need-returns-8
 unfolding inRange
 returns-8 c =
+    let arm = c .before in
+    rw (is-public (arm .before .args .r) (arm .match .keys8))
+
+returns-9 : tie.Need-returns-9
+unfolding inRange
+returns-9 c =
     let rest = c .match .rest in
-    let above = past-six _ (rest .0 .0 .0 .0 .0 .0 .1) (rest .0 .0 .0 .0 .0 .1) (rest .0 .0 .0 .0 .1) (rest .0 .0 .0 .1) (rest .0 .0 .1)
-    (rest .0 .1) (rest .1) in
+    let above = past-last _ (rest .0 .0 .0 .0 .0 .0 .0 .1) (rest .0 .0 .0 .0 .0 .0 .1) (rest .0 .0 .0 .0 .0 .1) (rest .0 .0 .0 .0 .1)
+    (rest .0 .0 .0 .1) (rest .0 .0 .1) (rest .0 .1) (rest .1) in
     rw (is-past (c .before .args .r) above)
 
 pub in-range-spec : {M : Type 1} → statement M
@@ -80,4 +97,5 @@ in-range-spec =
     returns-5
     returns-6
     returns-7
-    returns-8)
+    returns-8
+    returns-9)
