@@ -34,7 +34,6 @@ use Rattle.policy.specs.Rules.{
 }
 use Rattle.policy.specs.Calls.{requestChecks, callChecks, judgeNumber}
 use Rattle.policy.specs.Published.{NotPublic, Access}
-use Rattle.policy.specs.Causes.{AtFront}
 use Rattle.policy.specs.PublicFolders.{SameButPublic, PublicFolders}
 use Rattle.policy.proofs.Fronts.{front-request}
 

@@ -56,8 +56,8 @@ module _ (t : Tables) (H : Request → Bool) where
   unfoldable pub opened : ℕ → ℕ → Bool
   opened s f = firmOfSome t (accessed s) f
 
-  -- folder o counts in the wall's test of person s: the person accessed it, and it is not public. Public folders are the published
-  -- model's sanitized data: of the model that 001 cites for its wall (4.1, reference 7), since 001 itself has no term for them
+  -- folder o counts in the wall's test of person s: the person accessed it, and it is not public. Public folders are the sanitized data of
+  -- the model that 001 cites for the wall (its reference 7); 001 itself has no term for them: such a pair ⟨s, o⟩ is no event of 4.1
   unfoldable pub counts : ℕ → ℕ → Bool
   counts s o = accessed s o && not (isPublic t o)
 

@@ -1,6 +1,6 @@
 -- The fields of a record as the code reads them from the book are those that the definition reads from the body, kind by kind; where they
 -- are in range, each number of the reading is one of its table.
-use Prim.Native.Nat.{ℕ, _+_, _≤_, _<_}
+use Prim.Native.Nat.{ℕ, _+_, _<_}
 use native.Mathlib.Nat.{add-zero}
 use native.Mathlib.Omega.{arith}
 use mathlib.Core.Bool.{true, _&&_}
