@@ -125,6 +125,15 @@ impl Tables {
         self.firms[usize::from(self.folder(folder).firm)].class
     }
 
+    /// The tables with no folder public.
+    pub fn without_marks(&self) -> Tables {
+        let mut unmarked = self.clone();
+        for folder in &mut unmarked.folders {
+            folder.public = false;
+        }
+        unmarked
+    }
+
     /// A book that declares what the tables hold: the mask, firms before
     /// folders, folders before their marks, and the end record.
     pub fn as_book(&self) -> Vec<u8> {

@@ -300,14 +300,6 @@ fn some_history(random: &mut Random, tables: &Tables) -> Vec<u8> {
     bytes
 }
 
-fn without_marks(tables: &Tables) -> Tables {
-    let mut unmarked = tables.clone();
-    for folder in &mut unmarked.folders {
-        folder.public = false;
-    }
-    unmarked
-}
-
 /// The history without every access of a public folder.
 fn without_public(tables: &Tables, bytes: &[u8]) -> Vec<u8> {
     let mut set = set_of(bytes);
@@ -339,7 +331,7 @@ fn the_wall_in_other_words() {
             };
             let expected = match passes {
                 true => 0,
-                false => judge(&without_marks(&tables), &left, &record),
+                false => judge(&tables.without_marks(), &left, &record),
             };
             assert_eq!(judge(&tables, &bytes, &record), expected);
             refused += usize::from(expected == 14);
@@ -356,7 +348,7 @@ fn marks_change_the_wall_alone() {
     for turn in 0..600 {
         let tables = some_tables(&mut random, (turn % 16) as u8);
         let bytes = some_history(&mut random, &tables);
-        let unmarked = without_marks(&tables);
+        let unmarked = tables.without_marks();
         for _ in 0..5 {
             let record = some_request(&mut random).as_record();
             let numbers = [&tables, &unmarked].map(|either| judge(either, &bytes, &record));

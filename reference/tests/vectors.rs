@@ -177,14 +177,6 @@ fn wall_refuses(tables: &Tables, history: &History, request: &Request) -> bool {
     judge_request(&alone, history, request) == 14
 }
 
-fn without_marks(tables: &Tables) -> Tables {
-    let mut unmarked = tables.clone();
-    for folder in &mut unmarked.folders {
-        folder.public = false;
-    }
-    unmarked
-}
-
 /// Judged requests for public folders, and those on which the wall would
 /// answer otherwise if there were no marks: a request for a public folder, a
 /// public folder of a rival in the past, and one of the same firm.
@@ -205,7 +197,7 @@ fn the_wall_meets_public_folders() {
         }
         under_wall += usize::from(public);
         let refused = wall_refuses(tables, history, request);
-        let unmarked = wall_refuses(&without_marks(tables), history, request);
+        let unmarked = wall_refuses(&tables.without_marks(), history, request);
         match (public, unmarked, refused) {
             (true, true, false) => passed += 1,
             (false, true, false) => rival_past += 1,

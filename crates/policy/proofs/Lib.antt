@@ -36,6 +36,8 @@ pub mod GivenEntries
 pub mod Books
 pub mod CallCauses
 pub mod Standings
+pub mod WallNumber
+pub mod MarksAlone
 pub mod PublicFolders
 pub mod Blanks
 pub mod SetPlaces

@@ -1,99 +1,37 @@
--- The wall passes public folders over. 14 comes exactly where the first checks permit and the wall does not, whatever the later rules say;
--- a request for a public folder passes the wall, and the wall asks of the past only what was accessed and is not public.
+-- The wall passes public folders over, and nothing else looks at a mark. A request for a public folder passes the wall, and the wall asks
+-- of the past only what was accessed and is not public; what marks change is in MarksAlone.
 use Prim.Native.Nat.{ℕ}
-use native.Mathlib.Omega.{arith}
 use mathlib.Core.Path.{_≡_, refl, sym, ap, ap₂, _∙_, fun-ext}
-use mathlib.Core.Logic.{⊎-elim, _≢_}
-use mathlib.Core.Bool.{Bool, true, false, cond, not, _&&_, _||_}
-use mathlib.Core.List.{List, [], _∷_, _++_}
+use mathlib.Core.Logic.{⊎-elim}
+use mathlib.Core.Bool.{Bool, true, false, not, _&&_, _||_}
+use mathlib.Core.List.{List, _++_}
 use mathlib.Core.Option.{Option, none, some}
 use lib.Dec.{eqb}
 use lib.ListN.{length}
 use Rattle.bits.specs.Bounded.{anyBelow, allBelow, _implies_}
 use Rattle.bits.proofs.Booleans.{or-left, implies-intro, decide}
 use Rattle.policy.specs.declared.Tables.{Tables}
-use Rattle.policy.specs.Checks.{_else_, ladder}
-use Rattle.policy.specs.Tables.{folderAt, classOf, isPublic, inForce, wallRule, lowWaterRule, rolesRule, pipelineRule}
+use Rattle.policy.specs.Checks.{ladder}
+use Rattle.policy.specs.Tables.{folderAt, classOf, isPublic, inForce, wallRule}
 use Rattle.policy.specs.Rulebook.{given}
 use Rattle.policy.specs.History.{historyBytes}
 use Rattle.policy.specs.Request.{Request, read, write, start, step, requestOf, setOf}
-use Rattle.policy.specs.Rules.{
-  declared,
-  firmOfSome,
-  did,
-  accessed,
-  counts,
-  counted,
-  otherClass,
-  wallAccess,
-  wall,
-  currentLevel,
-  lowWater,
-  roles,
-  pipeline,
-}
+use Rattle.policy.specs.Rules.{declared, firmOfSome, did, accessed, counts, counted, otherClass, wallAccess, wall}
 use Rattle.policy.specs.Calls.{requestChecks, callChecks, judgeNumber}
 use Rattle.policy.specs.Published.{NotPublic, Access}
 use Rattle.policy.specs.PublicFolders.{SameButPublic, PublicFolders}
 use Rattle.policy.proofs.Fronts.{front-request}
-
--- ---- the number 14
-
--- the number of the call's checks, of the parties, of the wall and of what comes after it
-abbrev numberOf : Bool → Bool → Bool → Bool → ℕ → ℕ
-numberOf size given parties walled later = cond size (cond given (cond parties (cond walled later 14) 13) 11) 10
-
--- the number of the rules after the wall
-afterWall : Tables → (Request → Bool) → Request → ℕ
-afterWall t H r =
-    ladder ((inForce t lowWaterRule implies lowWater t (currentLevel t H) r else 15)
-    ∷ (inForce t rolesRule implies roles t H r else 16)
-    ∷ (inForce t pipelineRule implies pipeline t H r else 17)
-    ∷ [])
-
--- it is another one
-later-other : (l r p : Bool) → _≢_ {A = ℕ} (cond l (cond r (cond p 0 17) 16) 15) 14
-later-other false r p = omega arith
-later-other true false p = omega arith
-later-other true true false = omega arith
-later-other true true true = omega arith
-
-after-other : (t : Tables) (H : Request → Bool) (r : Request) → afterWall t H r ≢ 14
-unfolding afterWall ladder
-after-other t H r =
-    later-other (inForce t lowWaterRule implies lowWater t (currentLevel t H) r) (inForce t rolesRule implies roles t H r)
-    (inForce t pipelineRule implies pipeline t H r)
-
--- the wall, where it is in force
-walled : Tables → (Request → Bool) → Request → Bool
-walled t H r = inForce t wallRule implies wall t H r
-
--- the number of a whole request
-judged-as : (t : Tables) (h : List ℕ) (r : Request)
-    → ladder (callChecks t h ++ requestChecks t (setOf h) (some r))
-    ≡ numberOf (eqb (length h) historyBytes) (given t) (declared t r) (walled t (setOf h) r) (afterWall t (setOf h) r)
-unfolding callChecks requestChecks ladder afterWall walled
-judged-as t h r = refl
-
--- a record that is cut gets its number by the length of the history alone
-cut-as : (t : Tables) (h h′ : List ℕ) → length h ≡ length h′
-    → ladder (callChecks t h′ ++ requestChecks t (setOf h′) none) ≡ ladder (callChecks t h ++ requestChecks t (setOf h) none)
-unfolding callChecks requestChecks
-cut-as t h h′ size = rw size
-
-passed-other : (a b d w : Bool) (m : ℕ) → w ≡ true → m ≢ 14 → numberOf a b d w m ≢ 14
-passed-other false b d w m p n e = omega arith
-passed-other true false d w m p n e = omega arith
-passed-other true true false w m p n e = omega arith
-passed-other true true true w m p n e = n (rw p at e)
-
--- where the wall refuses, what comes after it does not count
-same-fourteen : (a b d w : Bool) (m m′ : ℕ) → m ≢ 14 → numberOf a b d w m ≡ 14 → numberOf a b d w m′ ≡ 14
-same-fourteen false b d w m m′ n e = e
-same-fourteen true false d w m m′ n e = e
-same-fourteen true true false w m m′ n e = e
-same-fourteen true true true false m m′ n e = refl
-same-fourteen true true true true m m′ n e = absurd (n e)
+use Rattle.policy.proofs.WallNumber.{
+  numberOf,
+  afterWall,
+  walled,
+  after-other,
+  judged-as,
+  cut-as,
+  passed-other,
+  same-fourteen,
+}
+use Rattle.policy.proofs.MarksAlone.{others-same, elsewhere-same, standing-same}
 
 -- ---- what the wall asks of the past
 
@@ -172,4 +110,8 @@ public-folders =
         one-way t h h′ same (requestOf bytes),
         one-way t h′ h (sym (same .0), λ q s o a n. sym (same .1 q s o a n)) (requestOf bytes),
       );
+      others = λ t t′ h bytes rest r s o same front a mark marks.
+          rw (front-request r rest front) (others-same t t′ same h r s o a mark marks);
+      elsewhere = λ t t′ h bytes same n n′. elsewhere-same t t′ same h (requestOf bytes) n n′;
+      standings = λ t t′ h s same. standing-same t t′ same h s;
     }

@@ -82,15 +82,12 @@ firm-kept t f class g d =
 folder-kept : (t t′ : Tables) → ((g : ℕ) → firmDeclared t g ≡ true → firmDeclared t′ g ≡ true)
     → (o : Folder) → folderGiven t o ≡ true → folderGiven t′ o ≡ true
 unfolding folderGiven
-folder-kept t t′ h o = go (o .declared)
+folder-kept t t′ h o = go (o .declared) _
   where
-    blank : Bool
-    blank = eqb (o .firm) 0 && eqb (o .kind) 0 && eqb (o .level .0) 0 && not (o .public)
-
-    go : (b : Bool) → cond b (firmDeclared t (o .firm) && leb (o .kind) 15) blank ≡ true
+    go : (b blank : Bool) → cond b (firmDeclared t (o .firm) && leb (o .kind) 15) blank ≡ true
         → cond b (firmDeclared t′ (o .firm) && leb (o .kind) 15) blank ≡ true
-    go true e = and-both _ _ (h (o .firm) (and-left (firmDeclared t (o .firm)) _ e)) (and-right (firmDeclared t (o .firm)) _ e)
-    go false e = e
+    go true blank e = and-both _ _ (h (o .firm) (and-left (firmDeclared t (o .firm)) _ e)) (and-right (firmDeclared t (o .firm)) _ e)
+    go false blank e = e
 
 -- a declared folder stays as a load leaves it, once it is marked public
 public-kept : (t : Tables) (e : Folder) → e .declared ≡ true → folderGiven t e ≡ true → folderGiven t (madePublic e) ≡ true

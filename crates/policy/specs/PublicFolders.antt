@@ -1,22 +1,46 @@
--- Document 02, Point 1, as claims about the number that a request gets: the wall, whose number is 14, passes public folders over. They hold
--- on every history and set of tables, under every mask.
+-- Document 02, Point 1, as claims about what the calls return: the wall, whose number is 14, passes public folders over, and nothing else
+-- looks at a mark. They hold on every history and under every mask.
 use Prim.Native.Nat.{ℕ}
 use mathlib.Core.Path.{_≡_}
 use mathlib.Core.Logic.{_↔_, _≢_}
 use mathlib.Core.Bool.{true}
 use mathlib.Core.List.{List}
 use lib.ListN.{length}
+use Rattle.policy.specs.declared.Folder.{Folder}
 use Rattle.policy.specs.declared.Tables.{Tables}
 use Rattle.policy.specs.Tables.{folderAt}
 use Rattle.policy.specs.Request.{Request, setOf}
-use Rattle.policy.specs.Calls.{judgeNumber}
-use Rattle.policy.specs.Published.{NotPublic, Access}
+use Rattle.policy.specs.Calls.{judgeNumber, standing}
+use Rattle.policy.specs.Published.{NotPublic, Access, Accessed}
+use Rattle.policy.specs.Given.{LoadGives}
 use Rattle.policy.specs.Causes.{AtFront}
 
 -- two histories that hold the same accesses to the folders that are not public
 abbrev pub SameButPublic : Tables → List ℕ → List ℕ → Type 0
 SameButPublic t h h′ =
     (length h ≡ length h′) × ((q : Request) (s o : ℕ) → Access q s o → NotPublic t o → setOf h q ≡ setOf h′ q)
+
+-- two entries of a folder that are the same but for the mark
+pub record SameEntry (e e′ : Folder) : Type 0 where
+  pub declared : e .declared ≡ e′ .declared
+  pub firm : e .firm ≡ e′ .firm
+  pub kind : e .kind ≡ e′ .kind
+  pub level : e .level .0 ≡ e′ .level .0
+
+-- two tables that loads give, and that are the same but for the marks
+pub record SameButMarks (t t′ : Tables) : Type 0 where
+  pub one : LoadGives t
+  pub other : LoadGives t′
+  pub mask : t .mask ≡ t′ .mask
+  pub firms : t .firms ≡ t′ .firms
+  pub persons : t .persons ≡ t′ .persons
+  pub folders : (o : ℕ) → SameEntry (folderAt t o) (folderAt t′ o)
+  pub roles : t .roles ≡ t′ .roles
+  pub steps : t .steps ≡ t′ .steps
+
+-- the folder has the same mark in both tables
+abbrev pub SameMark : Tables → Tables → ℕ → Type 0
+SameMark t t′ o = folderAt t o .public ≡ folderAt t′ o .public
 
 pub record PublicFolders : Type 0 where
   -- "the wall passes a request for a public folder"
@@ -26,3 +50,13 @@ pub record PublicFolders : Type 0 where
   -- "public folders already opened don't count in its test": whatever was done on them, the wall refuses the same requests
   pub uncounted :
       (t : Tables) (h h′ bytes : List ℕ) → SameButPublic t h h′ → (judgeNumber t h bytes ≡ 14) ↔ (judgeNumber t h′ bytes ≡ 14)
+  -- a mark counts where the folder is asked for or was accessed by the person, and nowhere else
+  pub others :
+      (t t′ : Tables) (h bytes rest : List ℕ) (r : Request) (s o : ℕ) → SameButMarks t t′ → AtFront r bytes rest → Access r s o
+      → SameMark t t′ o → ((i : ℕ) → Accessed t (setOf h) s i → SameMark t t′ i) → judgeNumber t h bytes ≡ judgeNumber t′ h bytes
+  -- marks change the answers of the wall alone: where neither answer is 14, both are the same
+  pub elsewhere :
+      (t t′ : Tables) (h bytes : List ℕ) → SameButMarks t t′ → judgeNumber t h bytes ≢ 14 → judgeNumber t′ h bytes ≢ 14
+      → judgeNumber t h bytes ≡ judgeNumber t′ h bytes
+  -- and no standing: level, rights used and firms opened take public folders as any other
+  pub standings : (t t′ : Tables) (h : List ℕ) (s : ℕ) → SameButMarks t t′ → standing t h s ≡ standing t′ h s

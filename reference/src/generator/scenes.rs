@@ -12,6 +12,18 @@ impl Generator {
         self.refused_books();
         self.cut_and_changed_books(&marked::BOOK);
         self.cut_and_changed_books(&marked::PUBLIC_BOOK);
+        self.lists_from_blank();
+        self.every_kind();
+        self.other_histories_and_tables();
+        for _ in 0..2 {
+            self.wrong_lengths();
+            self.too_few_answers();
+        }
+        self.long_runs();
+    }
+
+    /// Lists of calls from blank, under every mask and in books of every size.
+    fn lists_from_blank(&mut self) {
         for mask in 0..16 {
             for _ in 0..2 {
                 let plan = Plan::small(&mut self.random, mask);
@@ -31,7 +43,10 @@ impl Generator {
             let plan = Plan::narrow_roles(&mut self.random, mask);
             self.list_scene(&plan, 50, 5);
         }
-        self.every_kind();
+    }
+
+    /// Histories that no list leaves, and tables changed field by field.
+    fn other_histories_and_tables(&mut self) {
         for mask in 0..16 {
             let plan = Plan::small(&mut self.random, mask);
             self.foreign_history(&plan, 50);
@@ -52,11 +67,6 @@ impl Generator {
             let plan = Plan::small(&mut self.random, 15);
             self.undeclared_later(&plan);
         }
-        for _ in 0..2 {
-            self.wrong_lengths();
-            self.too_few_answers();
-        }
-        self.long_runs();
     }
 
     pub fn standings_of_everyone(&mut self) {

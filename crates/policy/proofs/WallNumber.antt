@@ -1,0 +1,86 @@
+-- When a request gets 14, the wall's number: exactly where the checks before the wall permit and the wall does not, whatever the rules
+-- after it say, since these have other numbers. By cases on the checks.
+use Prim.Native.Nat.{ℕ}
+use native.Mathlib.Omega.{arith}
+use mathlib.Core.Path.{_≡_, refl}
+use mathlib.Core.Logic.{_≢_}
+use mathlib.Core.Bool.{Bool, true, false, cond}
+use mathlib.Core.List.{List, [], _∷_, _++_}
+use mathlib.Core.Option.{none, some}
+use lib.Dec.{eqb}
+use lib.ListN.{length}
+use Rattle.bits.specs.Bounded.{_implies_}
+use Rattle.policy.specs.declared.Tables.{Tables}
+use Rattle.policy.specs.Checks.{_else_, ladder}
+use Rattle.policy.specs.Tables.{inForce, wallRule, lowWaterRule, rolesRule, pipelineRule}
+use Rattle.policy.specs.Rulebook.{given}
+use Rattle.policy.specs.History.{historyBytes}
+use Rattle.policy.specs.Request.{Request, setOf}
+use Rattle.policy.specs.Rules.{declared, wall, currentLevel, lowWater, roles, pipeline}
+use Rattle.policy.specs.Calls.{requestChecks, callChecks}
+
+-- the number of the call's checks, of the parties, of the wall and of what comes after it
+abbrev pub numberOf : Bool → Bool → Bool → Bool → ℕ → ℕ
+numberOf size given parties walled later = cond size (cond given (cond parties (cond walled later 14) 13) 11) 10
+
+-- the number of the rules after the wall
+unfoldable pub afterWall : Tables → (Request → Bool) → Request → ℕ
+afterWall t H r =
+    ladder ((inForce t lowWaterRule implies lowWater t (currentLevel t H) r else 15)
+    ∷ (inForce t rolesRule implies roles t H r else 16)
+    ∷ (inForce t pipelineRule implies pipeline t H r else 17)
+    ∷ [])
+
+-- it is another one
+later-other : (l r p : Bool) → _≢_ {A = ℕ} (cond l (cond r (cond p 0 17) 16) 15) 14
+later-other false r p = omega arith
+later-other true false p = omega arith
+later-other true true false = omega arith
+later-other true true true = omega arith
+
+pub after-other : (t : Tables) (H : Request → Bool) (r : Request) → afterWall t H r ≢ 14
+unfolding afterWall ladder
+after-other t H r =
+    later-other (inForce t lowWaterRule implies lowWater t (currentLevel t H) r) (inForce t rolesRule implies roles t H r)
+    (inForce t pipelineRule implies pipeline t H r)
+
+-- the wall, where it is in force
+unfoldable pub walled : Tables → (Request → Bool) → Request → Bool
+walled t H r = inForce t wallRule implies wall t H r
+
+-- the number of a whole request
+pub judged-as : (t : Tables) (h : List ℕ) (r : Request)
+    → ladder (callChecks t h ++ requestChecks t (setOf h) (some r))
+    ≡ numberOf (eqb (length h) historyBytes) (given t) (declared t r) (walled t (setOf h) r) (afterWall t (setOf h) r)
+unfolding callChecks requestChecks ladder afterWall walled
+judged-as t h r = refl
+
+-- a record that is cut gets its number by the length of the history alone
+pub cut-as : (t : Tables) (h h′ : List ℕ) → length h ≡ length h′
+    → ladder (callChecks t h′ ++ requestChecks t (setOf h′) none) ≡ ladder (callChecks t h ++ requestChecks t (setOf h) none)
+unfolding callChecks requestChecks
+cut-as t h h′ size = rw size
+
+pub passed-other : (a b d w : Bool) (m : ℕ) → w ≡ true → m ≢ 14 → numberOf a b d w m ≢ 14
+passed-other false b d w m p n e = omega arith
+passed-other true false d w m p n e = omega arith
+passed-other true true false w m p n e = omega arith
+passed-other true true true w m p n e = n (rw p at e)
+
+-- where the wall refuses, what comes after it does not count
+pub same-fourteen : (a b d w : Bool) (m m′ : ℕ) → m ≢ 14 → numberOf a b d w m ≡ 14 → numberOf a b d w m′ ≡ 14
+same-fourteen false b d w m m′ n e = e
+same-fourteen true false d w m m′ n e = e
+same-fourteen true true false w m m′ n e = e
+same-fourteen true true true false m m′ n e = refl
+same-fourteen true true true true m m′ n e = absurd (n e)
+
+-- two answers that are not the wall's, with the same before and after it
+pub same-later : (a b d w w′ : Bool) (m : ℕ) → numberOf a b d w m ≢ 14 → numberOf a b d w′ m ≢ 14 → numberOf a b d w m ≡ numberOf a b d w′ m
+same-later false b d w w′ m n n′ = refl
+same-later true false d w w′ m n n′ = refl
+same-later true true false w w′ m n n′ = refl
+same-later true true true true true m n n′ = refl
+same-later true true true false false m n n′ = refl
+same-later true true true true false m n n′ = absurd (n′ refl)
+same-later true true true false true m n n′ = absurd (n refl)
