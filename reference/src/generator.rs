@@ -5,14 +5,16 @@ mod altered;
 mod books;
 mod lengths;
 mod marks;
+mod plans;
 mod requests;
 mod scenes;
+mod steps;
 
 use crate::command::Command;
 use crate::history::HISTORY_BYTES;
 use crate::play::Player;
 use crate::random::Random;
-use books::Plan;
+use plans::Plan;
 
 /// The seed of the committed files.
 pub const SEED: u64 = 1;

@@ -1,8 +1,8 @@
 //! A second reckoning of the shared-office access monitor, written from the
 //! papers alone. It follows the sections "Rulebook", "History", "Levels",
-//! "Four rules" and "Requests and calls" word by word, and Point 1 (public
-//! folders) of the later requests, with sets of requests and plain loops, so
-//! that a reader can check it by hand.
+//! "Four rules" and "Requests and calls" word by word, and Points 1 (public
+//! folders) and 2 (a step alters the folder) of the later requests, with sets
+//! of requests and plain loops, so that a reader can check it by hand.
 
 pub mod answers;
 pub mod book;

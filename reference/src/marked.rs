@@ -1,5 +1,5 @@
-//! The marked book and requests of the section "The program `answers`", and a
-//! book with a public folder.
+//! The marked book and requests of the section "The program `answers`", a book
+//! with a public folder and one whose steps alter.
 
 pub const BOOK: [u8; 54] = [
     1, 15, // all four rules
@@ -42,3 +42,20 @@ pub const PUBLIC_LISTS: [([u8; 12], [u8; 4]); 2] = [
     ([16, 0, 0, 16, 0, 1, 16, 0, 2, 16, 0, 1], [0, 14, 0, 14]),
     ([16, 0, 2, 16, 0, 0, 17, 0, 2, 16, 0, 1], [0, 0, 0, 14]),
 ];
+
+/// One person and three folders: of the person's level, of a lower one, and of
+/// the lower rank with a compartment that the person has not.
+pub const STEP_BOOK: [u8; 28] = [
+    1, 2, // low-water
+    2, 0, 0, // one firm
+    3, 0, 3, 32, // one person
+    4, 0, 0, 0, 3, 32, 4, 1, 0, 0, 1, 16, 4, 2, 0, 0, 4, 16, // folders
+    0,
+];
+
+/// A step that lowers, a write and a step that the lower level refuses, and a
+/// step that it allows.
+pub const STEP_REQUESTS: [u8; 15] = [19, 0, 5, 1, 17, 0, 0, 19, 0, 3, 2, 19, 0, 0, 1];
+
+/// Their answers from blank.
+pub const STEP_ANSWERS: [u8; 4] = [0, 15, 15, 0];

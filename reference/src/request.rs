@@ -82,6 +82,15 @@ impl Request {
         }
     }
 
+    /// The folder whose level lowers the person: read and step lower, whichever
+    /// the step, write and start do not.
+    pub fn folder_that_lowers(&self) -> Option<u8> {
+        match *self {
+            Read { folder, .. } | Step { folder, .. } => Some(folder),
+            Write { .. } | Start { .. } => None,
+        }
+    }
+
     /// Whether each person and folder it names is declared.
     pub fn parties_declared(&self, tables: &Tables) -> bool {
         let target_declared = match *self {

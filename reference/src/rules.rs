@@ -1,6 +1,6 @@
-//! The four rules (section "Four rules", and Point 1 of the later requests for
-//! public folders) and what they look at. Each rule is asked about a request
-//! whose parties are declared.
+//! The four rules (section "Four rules", and of the later requests Point 1 for
+//! public folders and Point 2 for steps that alter) and what they look at. Each
+//! rule is asked about a request whose parties are declared.
 
 use crate::history::{counted, History};
 use crate::level::Level;
@@ -53,16 +53,13 @@ pub fn firms_opened(tables: &Tables, history: &History, person: u8) -> BTreeSet<
     firms
 }
 
-/// The meet of the first level and the levels of all folders read.
+/// The meet of the first level and the levels of all folders that the person
+/// has read or stepped on, under every mask.
 pub fn current_level(tables: &Tables, history: &History, person: u8) -> Level {
     let mut level = tables.persons[usize::from(person)].level;
     for request in counted(tables, history) {
-        if let Request::Read {
-            person: reader,
-            folder,
-        } = *request
-        {
-            if reader == person {
+        if request.person() == person {
+            if let Some(folder) = request.folder_that_lowers() {
                 level = level.meet(&tables.folder(folder).level);
             }
         }
@@ -118,12 +115,13 @@ fn wall_grants(tables: &Tables, history: &History, request: &Request) -> bool {
     some_of_same_firm || all_in_another_class
 }
 
-/// Low-water: write needs the folder's level at most the person's, start
-/// needs the started person's level at most the starter's.
+/// Low-water: write and step need the folder's level at most the current level
+/// of the person, start needs the started person's at most the starter's. The
+/// current level is the one before the request.
 fn low_water_grants(tables: &Tables, history: &History, request: &Request) -> bool {
     match *request {
-        Request::Read { .. } | Request::Step { .. } => true,
-        Request::Write { person, folder } => tables
+        Request::Read { .. } => true,
+        Request::Write { person, folder } | Request::Step { person, folder, .. } => tables
             .folder(folder)
             .level
             .at_most(&current_level(tables, history, person)),

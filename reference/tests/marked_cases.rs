@@ -1,7 +1,9 @@
-//! P1 to P10 of the paper, and cases of public folders (Point 1).
+//! P1 to P10 of the paper, and cases of public folders (Point 1) and of a step
+//! that alters (Point 2).
 
 use reference::answers::answers;
 use reference::marked::{book_with_rights, ANSWERS, BOOK, PUBLIC_BOOK, PUBLIC_LISTS, REQUESTS};
+use reference::marked::{STEP_BOOK, STEP_REQUESTS};
 use reference::{blank, judge, load, put, rest, run, standing, Level, Tables};
 use std::io::Write;
 use std::process::{Command, Stdio};
@@ -199,4 +201,12 @@ fn books_refused_for_a_mark() {
         assert_eq!(load(book).tables, Tables::empty_book());
         assert!(rest(book).is_empty());
     }
+}
+
+#[test]
+fn a_step_that_alters() {
+    assert_eq!(
+        program(&[&STEP_BOOK[..], &STEP_REQUESTS].concat()),
+        "1 0\n2 15\n3 15\n4 0\ngranted 2 refused 2\n"
+    );
 }

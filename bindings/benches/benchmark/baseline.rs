@@ -1,6 +1,8 @@
-//! The algorithm of the proved monitor in plain Rust: one pass over a person's
-//! folders, sets as masks, reads and writes by words, steps by doubling, the set
-//! of the declared persons made once a run. Tables are lent by reference.
+//! The algorithm of the proved monitor in plain Rust: the folders on which a
+//! person stepped are found first, then one pass over the folders on which the
+//! person did anything; sets as masks, reads and writes by words, steps by
+//! doubling, the set of the declared persons made once a run. Tables are lent by
+//! reference.
 
 use crate::tables::{given, load, Folder, Tables};
 
@@ -19,11 +21,24 @@ fn bit(h: &[u8], i: usize) -> bool {
 }
 
 struct Past {
-    level: u16,
     rights: u64,
     /// The firms that the wall counts: of the folders that are not public. A
     /// run asks for no other set of firms.
     firms: u64,
+}
+
+/// The folders on which a person stepped, as two words: the union of the
+/// sixteen words of a folder is the set of the persons who stepped on it.
+fn stepped_by(h: &[u8], s: usize) -> [u64; 2] {
+    let mut stepped = [0; 2];
+    for (half, set) in stepped.iter_mut().enumerate() {
+        for i in 0..64 {
+            let first = 2560 + 128 * (64 * half + i);
+            let steppers = (0..16).fold(0, |all, p| all | word(h, first + 8 * p));
+            *set |= (steppers >> s & 1) << i;
+        }
+    }
+    stepped
 }
 
 /// The steps that a person applied to a folder: bits eight bytes apart, from
@@ -53,49 +68,44 @@ fn has_started(t: &Tables, h: &[u8], s: usize) -> bool {
 }
 
 /// Adds what a person did on 64 folders, whose reads and writes are two words.
-fn past_over(folders: &[Folder], h: &[u8], s: usize, first: usize, past: &mut Past) {
+fn past_over(folders: &[Folder], h: &[u8], s: usize, first: usize, stepped: u64, past: &mut Past) {
     let read = word(h, 16 * s + first / 8);
     let wrote = word(h, 1024 + 16 * s + first / 8);
-    for (i, folder) in folders.iter().enumerate() {
+    let mut rest = read | wrote | stepped;
+    while rest != 0 {
+        let i = rest.trailing_zeros() as usize;
+        rest &= rest - 1;
+        let folder = &folders[i];
         if !folder.declared {
             continue;
         }
-        let steps = steps_of(h, s, first + i);
-        let (seen, changed) = (read >> i & 1 == 1, wrote >> i & 1 == 1);
-        if !seen && !changed && steps == 0 {
-            continue;
+        if stepped >> i & 1 == 1 {
+            past.rights |= u64::from(steps_of(h, s, first + i)) << 48;
         }
-        past.rights |= u64::from(steps) << 48;
-        if seen {
-            past.level = meet(past.level, folder.level);
-            past.rights |= 1 << folder.kind;
-        }
-        if changed {
-            past.rights |= 1 << (16 + folder.kind);
-        }
+        past.rights |= (read >> i & 1) << folder.kind;
+        past.rights |= (wrote >> i & 1) << (16 + folder.kind);
         past.firms |= u64::from(!folder.public) << folder.firm;
     }
 }
 
-fn past_of(t: &Tables, h: &[u8], s: usize) -> Past {
+fn past_of(t: &Tables, h: &[u8], s: usize, stepped: [u64; 2]) -> Past {
     let mut past = Past {
-        level: t.persons[s].level,
         rights: 0,
         firms: 0,
     };
-    past_over(&t.folders[..64], h, s, 0, &mut past);
-    past_over(&t.folders[64..], h, s, 64, &mut past);
+    past_over(&t.folders[..64], h, s, 0, stepped[0], &mut past);
+    past_over(&t.folders[64..], h, s, 64, stepped[1], &mut past);
     if has_started(t, h, s) {
         past.rights |= 1 << 32;
     }
     past
 }
 
-/// The level after 64 folders, of which those in the set were read: the lowest
-/// is taken out of the set in each turn, rank and compartments are met apart.
-fn level_over(folders: &[Folder], read: u64, before: u16) -> u16 {
+/// The level after those of 64 folders that are in the set: the lowest is taken
+/// out of the set in each turn, rank and compartments are met apart.
+fn level_over(folders: &[Folder], set: u64, before: u16) -> u16 {
     let (mut rank, mut compartments) = (before >> 12, before & 0xfff);
-    let mut rest = read;
+    let mut rest = set;
     while rest != 0 {
         let folder = &folders[rest.trailing_zeros() as usize];
         if folder.declared {
@@ -107,9 +117,17 @@ fn level_over(folders: &[Folder], read: u64, before: u16) -> u16 {
     rank << 12 | compartments
 }
 
+/// The current level of a person: the folders read and those stepped on are
+/// one set.
+fn level_with(t: &Tables, h: &[u8], s: usize, stepped: [u64; 2]) -> u16 {
+    let low = word(h, 16 * s) | stepped[0];
+    let high = word(h, 16 * s + 8) | stepped[1];
+    let level = level_over(&t.folders[..64], low, t.persons[s].level);
+    level_over(&t.folders[64..], high, level)
+}
+
 fn current_level(t: &Tables, h: &[u8], s: usize) -> u16 {
-    let low = level_over(&t.folders[..64], word(h, 16 * s), t.persons[s].level);
-    level_over(&t.folders[64..], word(h, 16 * s + 8), low)
+    level_with(t, h, s, stepped_by(h, s))
 }
 
 fn wall_permits(t: &Tables, firms: u64, o: usize) -> bool {
@@ -156,14 +174,16 @@ fn in_force(t: &Tables, rule: u8) -> bool {
     t.mask >> rule & 1 == 1
 }
 
-fn judge_access(t: &Tables, h: &[u8], s: usize, o: usize, right: usize, write: bool) -> u8 {
+fn judge_access(t: &Tables, h: &[u8], s: usize, o: usize, right: usize, modifies: bool) -> u8 {
     let walled = in_force(t, 0) && !t.folders[o].public;
+    let levelled = in_force(t, 1) && modifies;
     if walled || in_force(t, 2) {
-        let past = past_of(t, h, s);
+        let stepped = stepped_by(h, s);
+        let past = past_of(t, h, s, stepped);
         if walled && !wall_permits(t, past.firms, o) {
             return 14;
         }
-        if in_force(t, 1) && write && !at_most(t.folders[o].level, past.level) {
+        if levelled && !at_most(t.folders[o].level, level_with(t, h, s, stepped)) {
             return 15;
         }
         if in_force(t, 2) && !roles_permit(t, past.rights, right) {
@@ -171,7 +191,7 @@ fn judge_access(t: &Tables, h: &[u8], s: usize, o: usize, right: usize, write: b
         }
         return 0;
     }
-    if !in_force(t, 1) || !write || at_most(t.folders[o].level, current_level(t, h, s)) {
+    if !levelled || at_most(t.folders[o].level, current_level(t, h, s)) {
         return 0;
     }
     15
@@ -185,7 +205,7 @@ fn judge_step(t: &Tables, persons: u64, h: &[u8], s: usize, p: usize, o: usize) 
     if p > 15 || !are_declared(t, s, o) {
         return 13;
     }
-    let number = judge_access(t, h, s, o, 48 + p, false);
+    let number = judge_access(t, h, s, o, 48 + p, true);
     if number != 0 || !in_force(t, 3) || pipeline_permits(t, persons, h, p, o) {
         return number;
     }
@@ -197,11 +217,11 @@ fn judge_start(t: &Tables, h: &[u8], s: usize, u: usize) -> u8 {
         return 13;
     }
     if in_force(t, 2) {
-        let past = past_of(t, h, s);
-        if in_force(t, 1) && !at_most(current_level(t, h, u), past.level) {
+        let stepped = stepped_by(h, s);
+        if in_force(t, 1) && !at_most(current_level(t, h, u), level_with(t, h, s, stepped)) {
             return 15;
         }
-        return if roles_permit(t, past.rights, 32) {
+        return if roles_permit(t, past_of(t, h, s, stepped).rights, 32) {
             0
         } else {
             16

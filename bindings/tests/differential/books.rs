@@ -46,9 +46,10 @@ fn good_records(random: &mut Random) -> Vec<Vec<u8>> {
     for firm in &firms {
         records.push(vec![2, *firm, random.below(classes) as u8]);
     }
+    let apart = random.below(3);
     let person_count = some_count(random, 64).max(1);
     for person in random.some_below(64, person_count) {
-        records.push([vec![3, person], some_level(random, 0xffff)].concat());
+        records.push([vec![3, person], some_level(random, 0xffff, apart)].concat());
     }
     let role_count = random.pick(&[1, 1, 2, 4, 32]);
     for role in random.some_below(32, role_count) {
@@ -57,7 +58,7 @@ fn good_records(random: &mut Random) -> Vec<Vec<u8>> {
     records.extend(good_pairs(random));
     random.shuffle(&mut records);
     if !firms.is_empty() {
-        records.extend(some_folders(random, &firms));
+        records.extend(some_folders(random, &firms, apart));
     }
     records.insert(0, vec![1, mask]);
     records
@@ -65,14 +66,14 @@ fn good_records(random: &mut Random) -> Vec<Vec<u8>> {
 
 /// Folders, some of them public: each mark right after its folder or at the
 /// end.
-fn some_folders(random: &mut Random, firms: &[u8]) -> Vec<Vec<u8>> {
+fn some_folders(random: &mut Random, firms: &[u8], apart: usize) -> Vec<Vec<u8>> {
     let (mut records, mut marks) = (Vec::new(), Vec::new());
     let public = random.pick(&[0, 20, 40, 60]);
     let folder_count = some_count(random, 128).max(1);
     for folder in random.some_below(128, folder_count) {
         let kind = random.below(16) as u8;
         let head = vec![4, folder, random.pick(firms), kind];
-        records.push([head, some_level(random, 0x7fff)].concat());
+        records.push([head, some_level(random, 0x7fff, apart)].concat());
         if random.chance(public) {
             let later = random.chance(50);
             let place = if later { &mut marks } else { &mut records };
@@ -83,10 +84,11 @@ fn some_folders(random: &mut Random, firms: &[u8]) -> Vec<Vec<u8>> {
     [records, marks].concat()
 }
 
-/// A level below the most, with many compartments.
-fn some_level(random: &mut Random, most: u16) -> Vec<u8> {
+/// A level below the most, with many compartments: the levels of a book are
+/// apart by few bits or none, so that the other rules are asked too.
+fn some_level(random: &mut Random, most: u16, apart: usize) -> Vec<u8> {
     let mut level = most;
-    for _ in 0..random.below(3) {
+    for _ in 0..random.below(apart + 1) {
         level &= !(1 << random.below(16));
     }
     level.to_le_bytes().to_vec()

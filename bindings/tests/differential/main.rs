@@ -64,7 +64,7 @@ fn the_baseline_agrees() {
         let mut random = Random::new(seed);
         let book = books::some_book(&mut random);
         let loaded = reference::load(&book);
-        let requests = Parties::of(&loaded.tables).requests(&mut random, 60);
+        let requests = Parties::of(&mut random, &loaded.tables).requests(&mut random, 60);
         let mut histories = [
             vec![0; kweldabe::HISTORY_BYTES],
             vec![0; kweldabe::HISTORY_BYTES],
@@ -116,6 +116,17 @@ fn a_public_folder_of_a_rival_is_passed() {
     }
     let loaded = kweldabe::load(&[1, 1, 7, 0, 0]);
     assert_eq!((loaded.number, loaded.offset), (19, 2));
+}
+
+#[test]
+fn a_step_alters_the_folder() {
+    let mut history = vec![0; kweldabe::HISTORY_BYTES];
+    let mut answers = [99; 4];
+    let (book, requests) = (&marked::STEP_BOOK, &marked::STEP_REQUESTS);
+    let ran = kweldabe::run(book, &mut history, requests, &mut answers);
+    assert_eq!(ran.map(|ran| ran.number), Ok(0));
+    assert_eq!(answers, marked::STEP_ANSWERS);
+    assert_eq!(kweldabe::standing(book, &history, 0).level, 0x1001);
 }
 
 #[test]

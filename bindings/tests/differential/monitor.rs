@@ -1,7 +1,9 @@
 //! The monitor under test: the proved one, or one that is wrong in one place.
 
-use kweldabe::{Loaded, Ran, Standing};
+use kweldabe::{Loaded, Ran, Standing, HISTORY_BYTES};
+use reference::history::{set_of, write_set};
 use reference::request::read_record;
+use reference::Request;
 
 pub trait Monitor {
     fn blank(&self, history: &mut [u8]) -> u8 {
@@ -51,10 +53,16 @@ pub enum Mutation {
     SixForNineteen,
     PublicNotPassed,
     PublicPastCounts,
+    StepPassesLowWater,
+    StepByFirstLevel,
+    StepsDoNotLower,
+    CreateDoesNotLower,
+    StepsLowerInForceAlone,
+    WritesLower,
 }
 
 impl Mutation {
-    pub const ALL: [Mutation; 12] = [
+    pub const ALL: [Mutation; 18] = [
         Mutation::BlankKeepsAByte,
         Mutation::OffsetOfNext,
         Mutation::RestOfRefused,
@@ -67,7 +75,23 @@ impl Mutation {
         Mutation::SixForNineteen,
         Mutation::PublicNotPassed,
         Mutation::PublicPastCounts,
+        Mutation::StepPassesLowWater,
+        Mutation::StepByFirstLevel,
+        Mutation::StepsDoNotLower,
+        Mutation::CreateDoesNotLower,
+        Mutation::StepsLowerInForceAlone,
+        Mutation::WritesLower,
     ];
+}
+
+/// The bit of low-water in a mask.
+const LOW_WATER: u8 = 2;
+
+/// A good book with another mask of rules.
+fn with_mask(book: &[u8], change: impl Fn(u8) -> u8) -> Vec<u8> {
+    let mut tables = reference::load(book).tables;
+    tables.mask = change(tables.mask);
+    tables.as_book()
 }
 
 pub struct Mutant {
@@ -97,6 +121,48 @@ impl Mutant {
             entry.public &= if is_asked { !own } else { !others };
         }
         tables.as_book()
+    }
+
+    /// The number of a request that low-water refuses: for two mutations a step
+    /// is asked by the other rules, always or where the first level would do.
+    fn refused_by_level(&self, book: &[u8], history: &[u8], request: &[u8]) -> u8 {
+        let passes = match self.mutation {
+            Mutation::StepPassesLowWater => true,
+            Mutation::StepByFirstLevel => {
+                let alone = with_mask(book, |_| LOW_WATER);
+                kweldabe::judge(&alone, &[0; HISTORY_BYTES], request) == 0
+            }
+            _ => false,
+        };
+        if !passes || request[0] != 19 {
+            return 15;
+        }
+        let others = with_mask(book, |mask| mask & !LOW_WATER);
+        kweldabe::judge(&others, history, request)
+    }
+
+    /// The history from which a level is worked out.
+    fn past(&self, book: &[u8], history: &[u8]) -> Vec<u8> {
+        let mut past = history.to_vec();
+        if past.len() != HISTORY_BYTES {
+            return past;
+        }
+        let in_force = reference::load(book).tables.mask & LOW_WATER != 0;
+        let mut requests = set_of(history);
+        requests.retain(|request| match (self.mutation, request) {
+            (Mutation::StepsDoNotLower, Request::Step { .. }) => false,
+            (Mutation::CreateDoesNotLower, Request::Step { step: 0, .. }) => false,
+            (Mutation::StepsLowerInForceAlone, Request::Step { .. }) => in_force,
+            _ => true,
+        });
+        write_set(&requests, &mut past);
+        if self.is(Mutation::WritesLower) {
+            let (reads, writes) = past.split_at_mut(1_024);
+            for (read, written) in reads.iter_mut().zip(writes) {
+                *read |= *written;
+            }
+        }
+        past
     }
 }
 
@@ -132,10 +198,13 @@ impl Monitor for Mutant {
 
     fn judge(&self, book: &[u8], history: &[u8], request: &[u8]) -> u8 {
         let number = kweldabe::judge(&self.book_for(book, request), history, request);
-        if self.is(Mutation::LowWaterPasses) && number == 15 {
+        if number != 15 {
+            return number;
+        }
+        if self.is(Mutation::LowWaterPasses) {
             return 0;
         }
-        number
+        self.refused_by_level(book, history, request)
     }
 
     fn put(&self, book: &[u8], history: &mut [u8], request: &[u8]) -> u8 {
@@ -165,6 +234,7 @@ impl Monitor for Mutant {
 
     fn standing(&self, book: &[u8], history: &[u8], person: u8) -> Standing {
         let mut found = kweldabe::standing(book, history, person);
+        found.level = kweldabe::standing(book, &self.past(book, history), person).level;
         if self.is(Mutation::OneFirmMore) && found.firms == 3 {
             found.firms += 1;
         }

@@ -3,16 +3,25 @@
 use reference::random::Random;
 use reference::Tables;
 
+/// The kinds of requests, each as often as it comes up.
+const KINDS: &[u8] = &[16, 16, 16, 17, 17, 18, 19, 19, 19, 19];
+
+/// Without reads steps alone lower.
+const NO_READS: &[u8] = &[17, 17, 17, 18, 19, 19, 19, 19, 19, 19];
+
 pub struct Parties {
     persons: Vec<u8>,
     folders: Vec<u8>,
+    kinds: &'static [u8],
 }
 
 impl Parties {
-    pub fn of(tables: &Tables) -> Parties {
+    /// The declared parties; in some scenes none of them reads.
+    pub fn of(random: &mut Random, tables: &Tables) -> Parties {
         Parties {
             persons: (0..64).filter(|n| tables.person_declared(*n)).collect(),
             folders: (0..128).filter(|n| tables.folder_declared(*n)).collect(),
+            kinds: random.pick(&[KINDS, KINDS, NO_READS]),
         }
     }
 
@@ -47,13 +56,18 @@ impl Parties {
     fn record(&self, random: &mut Random) -> Vec<u8> {
         let person = self.person(random);
         let folder = mostly_of(random, &self.folders);
-        match random.below(10) {
-            0..=2 => vec![16, person, folder],
-            3..=4 => vec![17, person, folder],
-            5 => vec![18, person, self.person(random)],
-            _ => vec![19, person, random.below(17) as u8, folder],
+        match random.pick(self.kinds) {
+            18 => vec![18, person, self.person(random)],
+            19 => vec![19, person, some_step(random), folder],
+            kind => vec![kind, person, folder],
         }
     }
+}
+
+/// Often one of the first steps, which a pipeline grants most.
+fn some_step(random: &mut Random) -> u8 {
+    let limit = random.pick(&[1, 3, 17, 17]);
+    random.below(limit) as u8
 }
 
 fn mostly_of(random: &mut Random, declared: &[u8]) -> u8 {

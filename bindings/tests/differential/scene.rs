@@ -73,15 +73,15 @@ fn kept(call: &str, what: &str, lent: &Lent, bytes: &[u8]) -> Result<(), String>
 }
 
 impl<'a, M: Monitor> Scene<'a, M> {
-    fn new(monitor: &'a M, seen: &'a mut Seen, random: Random, book: Vec<u8>) -> Self {
+    fn new(monitor: &'a M, seen: &'a mut Seen, mut random: Random, book: Vec<u8>) -> Self {
         let loaded = reference::load(&book);
         Scene {
             monitor,
             seen,
+            parties: Parties::of(&mut random, &loaded.tables),
             random,
             book: Lent::new(&book),
             book_before: book,
-            parties: Parties::of(&loaded.tables),
             loaded,
             history: Vec::new(),
             calls: 0,

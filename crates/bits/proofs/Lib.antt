@@ -3,3 +3,4 @@ pub mod Bounds
 pub mod BitLaws
 pub mod Masks
 pub mod LowestBit
+pub mod SetFolds

@@ -24,3 +24,7 @@ withBitIf p k m = cond (p k) (withBit m k) m
 -- the set of the numbers below n of which p holds
 unfoldable pub maskBelow : ℕ → (ℕ → Bool) → ℕ
 maskBelow n p = foldBelow n (withBitIf p) 0
+
+-- f at the members of a set that are below n, from the lowest on, each on what the one before gave; a at the start
+unfoldable pub foldSet : {A : Type 0} → ℕ → ℕ → (ℕ → A → A) → A → A
+foldSet n set f a = foldBelow n (λ k x. cond (bit set k) (f k x) x) a

@@ -54,14 +54,11 @@ pub fn one_if(test: bool) -> u64
     if test { 1 } else { 0 }
 }
 
-// n, with bit k set if `add`.
+// n, with bit k set if `add`. The test itself is shifted to the bit's place: in a loop over folders, a choice of two numbers takes longer.
 pub fn with_bit64_if(add: bool, n: u64, k: usize) -> u64
     ensures { λ r. ⌜ r ≡ cond add (withBit n (k % 64)) n ⌝ }
 {
-    if add {
-        return with_bit64(n, k);
-    }
-    n
+    n | (one_if(add) << (k & 63))
 }
 
 // A byte as an index.

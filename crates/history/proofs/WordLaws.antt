@@ -9,9 +9,10 @@ use mathlib.Core.List.{List}
 use lib.Dec.{ltb}
 use lib.ListN.{getD}
 use borrow.Author.Tests.{ltb-true, ltb-false}
-use Rattle.bits.specs.Bits.{bit}
+use Rattle.bits.specs.Bits.{bit, maskBelow}
 use Rattle.bits.proofs.Booleans.{decide}
 use Rattle.bits.proofs.BitLaws.{bit-above, above-lt}
+use Rattle.bits.proofs.Masks.{mask-of-bits}
 use Rattle.policy.specs.History.{bitAt}
 use Rattle.history.specs.Words.{bytesAt, wordAt}
 
@@ -51,3 +52,8 @@ module _ (h : List ℕ) (small : (i : ℕ) → getD h i 0 < 256) where
 pub word-bit : (h : List ℕ) (at k : ℕ) → ((i : ℕ) → getD h i 0 < 256) → k < 64 → bit (wordAt h at) k ≡ bitAt h (8 * at + k)
 unfolding wordAt
 word-bit h at k small l = bytes-bit h small 3 at k l
+
+-- the word is the set of the history's bits that are set there
+pub word-mask : (h : List ℕ) (at : ℕ) → ((i : ℕ) → getD h i 0 < 256) → wordAt h at ≡ maskBelow 64 (λ k. bitAt h (8 * at + k))
+unfolding wordAt
+word-mask h at small = mask-of-bits 64 (bytesAt 3 h at) _ (bytes-lt h small 3 at) (λ k l. bytes-bit h small 3 at k l)

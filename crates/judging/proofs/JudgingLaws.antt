@@ -10,7 +10,6 @@ use mathlib.Core.Option.{none, some}
 use lib.ListN.{length, take}
 use borrow.Rule.Slice.PartAt.{part-to-end}
 use borrow.Author.Tests.{not-true, not-false}
-use Rattle.bits.specs.Bits.{maskBelow}
 use Rattle.bits.specs.Bounded.{_implies_}
 use Rattle.bits.proofs.Booleans.{and-left, and-right, and-both, false-intro, false-elim}
 use Rattle.level.specs.Levels.{atMost}
@@ -35,8 +34,8 @@ use Rattle.policy.specs.Rules.{
   wall,
   wallAccess,
   currentLevel,
+  mayModify,
   lowWater,
-  used,
   roles,
   pipelineStep,
   pipeline,
@@ -55,8 +54,11 @@ use Rattle.judging.specs.Judging.{
   asksPast,
   asksLevel,
   isUnasked,
+  levelPasses,
+  startPasses,
   accessRight,
   accessNumber,
+  startNumber,
   judged,
   Answered,
   AnsweredAt,
@@ -79,18 +81,6 @@ passes b w (inr n) = rw n
 
 pub refuses : (b w : Bool) → b ≡ true → w ≡ false → (b implies w) ≡ false
 refuses b w p q = rw p q
-
--- the test of the levels, by the entry that was read: of a write or not, of a write, and of another access
-pub level-test : (writes : Bool) (own : ℕ) {e f : Folder} {r : Bool} → e ≡ f → r ≡ (writes implies atMost 12 (e .level .0) own)
-    → (writes implies atMost 12 (f .level .0) own) ≡ r
-level-test writes own same test = sym (test ∙ ap (λ (x : Folder). writes implies atMost 12 (x .level .0) own) same)
-
-pub level-written : {writes r : Bool} {own current : ℕ} {e f : Folder} → writes ≡ true → e ≡ f → own ≡ current
-    → r ≡ atMost 12 (e .level .0) own → (writes implies atMost 12 (f .level .0) current) ≡ r
-level-written w same level test = rw (w, ← same, ← level) (sym test)
-
-pub level-unwritten : (writes b : Bool) → writes ≡ false → (writes implies b) ≡ true
-level-unwritten writes b w = rw w
 
 -- a test of two that does not fail
 pub known-both : (a b r : Bool) → r ≡ a && b → not r ≡ false → (a ≡ true) × (b ≡ true)
@@ -123,7 +113,7 @@ pub number-alone : (t : Tables) (l r : Bool) → inForce t lowWaterRule ≡ true
 unfolding numberOf ladder
 number-alone t l r on off = rw (on, off, implies-true (inForce t wallRule))
 
--- without the wall and roles, low-water decides: a write by the levels, and another access is granted
+-- without the wall and roles, low-water decides: an access that modifies the folder by the levels, and any other is granted
 neither : (a b : Bool) → a || b ≡ false → (a ≡ false) × (b ≡ false)
 neither true b e = absurd (false≢true (sym e))
 neither false b e = (refl, e)
@@ -209,29 +199,24 @@ module _ (t : Tables) (H : Request → Bool) where
       (cond (inForce t pipelineRule implies pipeline t H (step s p o)) 0 17) (λ z. k (e ∙ z)))
       ∙ sym e
 
-  module _ (ok : given t ≡ true) where
-    -- what a person did, once it is gathered, decides an access as the definitions do
-    pub access-past : (s o new : ℕ) (writes : Bool) (past : Past) → folderDeclared t o ≡ true → past ≡ pastOf t H s
-        → numberOf t (wallBy t (past .counted) o) (writes implies atMost 12 (folderAt t o .level .0) (past .level .0)) (rolesBy t
-        (past .rights) new)
-        ≡ accessNumber t H s o new writes
-    unfolding accessNumber pastOf
-    access-past s o new writes past known e =
-        rw e
-        (ap
-        (λ (w : Bool). numberOf t w (writes implies atMost 12 (folderAt t o .level .0) (currentLevel t H s))
-        (rolesBy t (maskBelow 64 (used t H s)) new))
-        (wall-by t H s ok o known))
+  -- a start, by the answers of low-water and of roles over what the starter did
+  pub start-by : (s u : ℕ) {past : Past} {l r : Bool} → past ≡ pastOf t H s → l ≡ startPasses t H s u
+      → r ≡ (inForce t rolesRule implies rolesBy t (past .rights) 32) → cond l (cond r 0 16) 15 ≡ startNumber t H s u
+  unfolding startNumber startPasses numberOf ladder pastOf
+  start-by s u e a b = rw (a, b, e, implies-true (inForce t wallRule))
 
-    pub start-past : (s u : ℕ) (past : Past) → past ≡ pastOf t H s
-        → numberOf t true (atMost 12 (currentLevel t H u) (past .level .0)) (rolesBy t (past .rights) 32)
-        ≡ numberOf t true (atMost 12 (currentLevel t H u) (currentLevel t H s)) (rolesBy t (maskBelow 64 (used t H s)) 32)
-    unfolding pastOf
-    start-past s u past e = rw e
+  module _ (ok : given t ≡ true) where
+    -- an access, by the answers of wall, low-water and roles over what the person did
+    pub access-by : (s o new : ℕ) (modifies : Bool) {past : Past} {w l r : Bool} → folderDeclared t o ≡ true → past ≡ pastOf t H s
+        → w ≡ (inForce t wallRule implies wallBy t (past .counted) o) → l ≡ levelPasses t o (currentLevel t H s) modifies
+        → r ≡ (inForce t rolesRule implies rolesBy t (past .rights) new)
+        → cond w (cond l (cond r 0 16) 15) 14 ≡ accessNumber t H s o new modifies
+    unfolding accessNumber levelPasses numberOf ladder pastOf
+    access-by s o new modifies known e a b c = rw (a, b, c, e, wall-by t H s ok o known)
 
     pub access-number : (writes : Bool) (s o : ℕ) → personDeclared t s ≡ true → folderDeclared t o ≡ true
         → judged t H (accessBy writes s o) ≡ accessNumber t H s o (accessRight writes (folderAt t o .kind)) writes
-    unfolding accessBy accessRight accessNumber wall lowWater right pipeline subject declared
+    unfolding accessBy accessRight accessNumber wall lowWater mayModify right pipeline subject declared
     access-number true s o p f =
         let d = and-both _ _ p f in
         by-three (write s o) d refl
@@ -241,19 +226,18 @@ module _ (t : Tables) (H : Request → Bool) where
         let d = and-both _ _ p f in
         by-three (read s o) d refl ∙ ap (numberOf t (wallAccess t H s o) true) (sym (roles-by t H s ok (read s o) d refl))
 
-    pub start-number : (s u : ℕ) → declared t (start s u) ≡ true
-        → judged t H (start s u)
-        ≡ numberOf t true (atMost 12 (currentLevel t H u) (currentLevel t H s)) (rolesBy t (maskBelow 64 (used t H s)) 32)
-    unfolding wall lowWater right pipeline subject
+    pub start-number : (s u : ℕ) → declared t (start s u) ≡ true → judged t H (start s u) ≡ startNumber t H s u
+    unfolding startNumber wall lowWater right pipeline subject
     start-number s u d =
         by-three (start s u) d refl
         ∙ ap (numberOf t true (atMost 12 (currentLevel t H u) (currentLevel t H s))) (sym (roles-by t H s ok (start s u) d refl))
 
     pub step-number : (s p o : ℕ) → declared t (step s p o) ≡ true
-        → accessNumber t H s o (48 + p) false
+        → accessNumber t H s o (48 + p) true
         ≡ numberOf t (wall t H (step s p o)) (lowWater t (currentLevel t H) (step s p o)) (roles t H (step s p o))
-    unfolding accessNumber wall lowWater right subject
-    step-number s p o d = ap (numberOf t (wallAccess t H s o) true) (roles-by t H s ok (step s p o) d refl)
+    unfolding accessNumber wall lowWater mayModify right subject
+    step-number s p o d =
+        ap (numberOf t (wallAccess t H s o) (atMost 12 (folderAt t o .level .0) (currentLevel t H s))) (roles-by t H s ok (step s p o) d refl)
 
 -- an access that no rule in force asks about
 pub unasked-access : (t : Tables) (H : Request → Bool) (writes : Bool) (s o : ℕ) → given t ≡ true → isUnasked t s o writes ≡ true

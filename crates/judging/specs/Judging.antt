@@ -36,23 +36,36 @@ numberOf t wall level roles =
 unfoldable pub asksPast : Tables → Bool
 asksPast t = inForce t wallRule || inForce t rolesRule
 
--- low-water asks about an access: about a write, if it is in force
+-- low-water asks about an access: about one that modifies the folder, if it is in force
 unfoldable pub asksLevel : Tables → Bool → Bool
-asksLevel t writes = writes && inForce t lowWaterRule
+asksLevel t modifies = modifies && inForce t lowWaterRule
+
+-- low-water, where it is in force, permits an access to folder o by a person at a level, which modifies the folder or not
+unfoldable pub levelPasses : Tables → ℕ → ℕ → Bool → Bool
+levelPasses t o level modifies = inForce t lowWaterRule implies (modifies implies atMost 12 (folderAt t o .level .0) level)
+
+-- low-water, where it is in force, permits a start of person u by person s
+unfoldable pub startPasses : Tables → (Request → Bool) → ℕ → ℕ → Bool
+startPasses t H s u = inForce t lowWaterRule implies atMost 12 (currentLevel t H u) (currentLevel t H s)
 
 -- an access by person s to folder o is granted with no look at what the person did
 unfoldable pub isUnasked : Tables → ℕ → ℕ → Bool → Bool
-isUnasked t s o writes = (not (asksPast t) && not (asksLevel t writes)) && (personDeclared t s && folderDeclared t o)
+isUnasked t s o modifies = (not (asksPast t) && not (asksLevel t modifies)) && (personDeclared t s && folderDeclared t o)
 
 -- the right of a write to a folder of a kind, or of a read
 unfoldable pub accessRight : Bool → ℕ → ℕ
 accessRight writes kind = cond writes (16 + kind) kind
 
--- these three for an access by person s to folder o that uses a right, and is a write or not
+-- these three for an access by person s to folder o that uses a right, and modifies the folder or not
 unfoldable pub accessNumber : Tables → (Request → Bool) → ℕ → ℕ → ℕ → Bool → ℕ
-accessNumber t H s o right write =
-    numberOf t (wallAccess t H s o) (write implies atMost 12 (folderAt t o .level .0) (currentLevel t H s))
+accessNumber t H s o right modifies =
+    numberOf t (wallAccess t H s o) (modifies implies atMost 12 (folderAt t o .level .0) (currentLevel t H s))
     (rolesBy t (maskBelow 64 (used t H s)) right)
+
+-- these three for a start of person u by person s, which the wall passes
+unfoldable pub startNumber : Tables → (Request → Bool) → ℕ → ℕ → ℕ
+startNumber t H s u =
+    numberOf t true (atMost 12 (currentLevel t H u) (currentLevel t H s)) (rolesBy t (maskBelow 64 (used t H s)) 32)
 
 -- the number of a whole request
 unfoldable pub judged : Tables → (Request → Bool) → Request → ℕ

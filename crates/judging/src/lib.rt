@@ -2,74 +2,23 @@
 ghost use mathlib.Core.Path.{_≡_};
 ghost use mathlib.Core.Bool.{true, false, cond, _&&_};
 ghost use Prim.Native.Nat.{_+_, _<_};
-ghost use Rattle.bits.specs.Bounded.{_implies_};
 ghost use Rattle.level.specs.Levels.{atMost};
-ghost use Rattle.policy.specs.Tables.{folderAt, personDeclared, folderDeclared, inForce, rolesRule};
-ghost use Rattle.policy.specs.Rulebook.{given};
+ghost use Rattle.policy.specs.Tables.{personDeclared, folderDeclared};
 ghost use Rattle.policy.specs.Request.{start, step, setOf};
 ghost use Rattle.policy.specs.Rules.{currentLevel};
 ghost use Rattle.policy.specs.Calls.{judgeOver};
 ghost use Rattle.packed.specs.Packed.{tablesOf};
 ghost use Rattle.request.specs.Parsed.{accessBy};
-ghost use Rattle.rules.specs.Sets.{wallBy, rolesBy};
-ghost use Rattle.judging.specs.Judging.{Ready, numberOf, asksPast, asksLevel, isUnasked, accessRight, accessNumber, judged};
+ghost use Rattle.judging.specs.Judging.{Ready, isUnasked, accessRight, accessNumber, startNumber, judged};
 ghost use Rattle.judging.specs.Judging.{Answered, AnsweredAt};
 use level::Level;
 use packed::Words;
-use past::Past;
+use past::levels;
+use past::steps;
 use policy::numbers;
 use request::Parsed;
 
-// Whether a write, if it is one, to a folder of one level by a person at another is permitted by low-water.
-fn level_permits(write: bool, folder: Level, person: Level) -> bool
-    ensures { λ r. ⌜ r ≡ (write implies atMost 12 (folder .0) (person .0)) ⌝ }
-{
-    if write {
-        return folder.compare(person);
-    }
-    true
-}
-
-// Wall, low-water and roles for an access to folder o, by what the person did.
-fn judge_past(t: &Words, did: Past, o: usize, right: usize, write: bool) -> u8
-    requires { ⌜ (given (tablesOf (now t)) ≡ true) × (folderDeclared (tablesOf (now t)) o ≡ true) ⌝ }
-    ensures { λ r. ⌜
-        r ≡ numberOf (tablesOf (now (t .entry))) (wallBy (tablesOf (now (t .entry))) (did .counted) o)
-        (write implies atMost 12 (folderAt (tablesOf (now (t .entry))) o .level .0) (did .level .0))
-        (rolesBy (tablesOf (now (t .entry))) (did .rights) right)
-        ⌝ }
-{
-    if packed::in_force(t, policy::WALL_RULE) {
-        if !rules::wall_permits(t, did.counted, o) {
-            return numbers::WALL;
-        }
-    }
-    if packed::in_force(t, policy::LOW_WATER_RULE) {
-        let folder = packed::folder(t, o);
-        let own = did.level;
-        let other = folder.level;
-        if !level_permits(write, other, own) {
-            return numbers::LOW_WATER;
-        }
-    }
-    if packed::in_force(t, policy::ROLES_RULE) {
-        if !rules::roles_permit(t, did.rights, right) {
-            return numbers::ROLES;
-        }
-    }
-    numbers::GRANTED
-}
-
-// Wall, low-water and roles for an access by person s to folder o, by what the person did, which is gathered in one pass.
-fn judge_by_past(t: &Words, h: &[u8], s: usize, o: usize, right: usize, write: bool) -> u8
-    requires { ⌜
-        Ready (tablesOf (now t)) (now h) × (personDeclared (tablesOf (now t)) s ≡ true)
-        × (folderDeclared (tablesOf (now t)) o ≡ true)
-        ⌝ }
-    ensures { λ r. ⌜ r ≡ accessNumber (tablesOf (now (t .entry))) (setOf (now (h .entry))) s o right write ⌝ }
-{
-    judge_past(t, past::past_of(t, h, s), o, right, write)
-}
+mod passing;
 
 // Low-water alone: whether a level is at most the current level of person s.
 fn judge_level(t: &Words, h: &[u8], s: usize, level: Level) -> u8
@@ -78,30 +27,52 @@ fn judge_level(t: &Words, h: &[u8], s: usize, level: Level) -> u8
         r ≡ cond (atMost 12 (level .0) (currentLevel (tablesOf (now (t .entry))) (setOf (now (h .entry))) s)) 0 15
         ⌝ }
 {
-    if level.compare(past::current_level(t, h, s)) {
+    if level.compare(levels::current_level(t, h, s)) {
         return numbers::GRANTED;
     }
     numbers::LOW_WATER
 }
 
-// Whether the wall or roles are in force. Only these two ask for all that a person did.
-fn asks_past(t: &Words) -> bool
-    ensures { λ r. ⌜ r ≡ asksPast (tablesOf (now (t .entry))) ⌝ }
+// Wall, low-water and roles for an access by person s to folder o, by what the person did. The folders on which the person stepped are
+// found once, for all that was done and for the level.
+fn judge_past(t: &Words, h: &[u8], s: usize, o: usize, right: usize, modifies: bool) -> u8
+    requires { ⌜
+        Ready (tablesOf (now t)) (now h) × (personDeclared (tablesOf (now t)) s ≡ true)
+        × (folderDeclared (tablesOf (now t)) o ≡ true)
+        ⌝ }
+    ensures { λ r. ⌜ r ≡ accessNumber (tablesOf (now (t .entry))) (setOf (now (h .entry))) s o right modifies ⌝ }
 {
-    if packed::in_force(t, policy::WALL_RULE) {
-        return true;
+    let stepped = steps::stepped_by(h, s);
+    let did = past::past_of(t, h, s, stepped);
+    if !passing::wall_passes(t, did.counted, o) {
+        return numbers::WALL;
     }
-    packed::in_force(t, policy::ROLES_RULE)
+    if !passing::level_passes(t, h, s, stepped, o, modifies) {
+        return numbers::LOW_WATER;
+    }
+    if !passing::roles_pass(t, did.rights, right) {
+        return numbers::ROLES;
+    }
+    numbers::GRANTED
 }
 
-// Whether low-water asks about an access: about a write, if it is in force.
-fn asks_level(t: &Words, write: bool) -> bool
-    ensures { λ r. ⌜ r ≡ asksLevel (tablesOf (now (t .entry))) write ⌝ }
+// Wall, low-water and roles for an access by person s to folder o, which uses a right, and modifies the folder or not.
+fn judge_rules(t: &Words, h: &[u8], s: usize, o: usize, right: usize, modifies: bool) -> u8
+    requires { ⌜
+        Ready (tablesOf (now t)) (now h) × (personDeclared (tablesOf (now t)) s ≡ true)
+        × (folderDeclared (tablesOf (now t)) o ≡ true)
+        ⌝ }
+    ensures { λ r. ⌜ r ≡ accessNumber (tablesOf (now (t .entry))) (setOf (now (h .entry))) s o right modifies ⌝ }
 {
-    if write {
-        return packed::in_force(t, policy::LOW_WATER_RULE);
+    if passing::asks_past(t) {
+        return judge_past(t, h, s, o, right, modifies);
     }
-    false
+    if !passing::asks_level(t, modifies) {
+        return numbers::GRANTED;
+    }
+    let folder = packed::folder(t, o);
+    let level = folder.level;
+    judge_level(t, h, s, level)
 }
 
 // Whether person s and folder o are declared.
@@ -134,31 +105,10 @@ fn judge_access(t: &Words, h: &[u8], s: usize, o: usize, write: bool) -> u8
         return numbers::UNDECLARED;
     }
     let folder = packed::folder(t, o);
-    if asks_past(t) {
-        return judge_by_past(t, &h[0..], s, o, access_right(write, folder.kind), write);
-    }
-    if !asks_level(t, write) {
-        return numbers::GRANTED;
-    }
-    let level = folder.level;
-    judge_level(t, &h[0..], s, level)
+    judge_rules(t, &h[0..], s, o, access_right(write, folder.kind), write)
 }
 
-// Wall, low-water and roles for step p on folder o by person s.
-fn judge_step_access(t: &Words, h: &[u8], s: usize, p: usize, o: usize) -> u8
-    requires { ⌜
-        Ready (tablesOf (now t)) (now h) × (personDeclared (tablesOf (now t)) s ≡ true)
-        × (folderDeclared (tablesOf (now t)) o ≡ true) × (p < 16)
-        ⌝ }
-    ensures { λ r. ⌜ r ≡ accessNumber (tablesOf (now (t .entry))) (setOf (now (h .entry))) s o (48 + p) false ⌝ }
-{
-    if asks_past(t) {
-        return judge_by_past(t, h, s, o, 48 + p, false);
-    }
-    numbers::GRANTED
-}
-
-// Step p on folder o by person s. The history is lent on as a part, as in `judge_access`.
+// Step p on folder o by person s, which modifies the folder. The history is lent on as a part, as in `judge_access`.
 fn judge_step(t: &Words, h: &[u8], s: usize, p: usize, o: usize) -> u8
     requires { ⌜ Ready (tablesOf (now t)) (now h) ⌝ }
     ensures { λ r. ⌜ r ≡ judged (tablesOf (now (t .entry))) (setOf (now (h .entry))) (step s p o) ⌝ }
@@ -169,7 +119,7 @@ fn judge_step(t: &Words, h: &[u8], s: usize, p: usize, o: usize) -> u8
     if !are_declared(t, s, o) {
         return numbers::UNDECLARED;
     }
-    let n = judge_step_access(t, &h[0..], s, p, o);
+    let n = judge_rules(t, &h[0..], s, o, 48 + p, true);
     if n != numbers::GRANTED {
         return n;
     }
@@ -192,28 +142,22 @@ fn are_persons(t: &Words, s: usize, u: usize) -> bool
     false
 }
 
-// Low-water and roles for a start of person u, by what the starter did. Roles are in force.
-fn judge_start_past(t: &Words, h: &[u8], did: Past, u: usize) -> u8
+// Low-water and roles for a start of person u by person s.
+fn judge_start_past(t: &Words, h: &[u8], s: usize, u: usize) -> u8
     requires { ⌜
-        Ready (tablesOf (now t)) (now h) × (personDeclared (tablesOf (now t)) u ≡ true) × (inForce (tablesOf (now t)) rolesRule ≡ true)
+        Ready (tablesOf (now t)) (now h) × (personDeclared (tablesOf (now t)) s ≡ true) × (personDeclared (tablesOf (now t)) u ≡ true)
         ⌝ }
-    ensures { λ r. ⌜
-        r ≡ numberOf (tablesOf (now (t .entry))) true
-        (atMost 12 (currentLevel (tablesOf (now (t .entry))) (setOf (now (h .entry))) u) (did .level .0))
-        (rolesBy (tablesOf (now (t .entry))) (did .rights) 32)
-        ⌝ }
+    ensures { λ r. ⌜ r ≡ startNumber (tablesOf (now (t .entry))) (setOf (now (h .entry))) s u ⌝ }
 {
-    if packed::in_force(t, policy::LOW_WATER_RULE) {
-        let own = did.level;
-        let other = past::current_level(t, h, u);
-        if !other.compare(own) {
-            return numbers::LOW_WATER;
-        }
+    let stepped = steps::stepped_by(h, s);
+    if !passing::start_passes(t, h, s, stepped, u) {
+        return numbers::LOW_WATER;
     }
-    if rules::roles_permit(t, did.rights, 32) {
-        return numbers::GRANTED;
+    let did = past::past_of(t, h, s, stepped);
+    if !passing::roles_pass(t, did.rights, 32) {
+        return numbers::ROLES;
     }
-    numbers::ROLES
+    numbers::GRANTED
 }
 
 // A start of person u by person s. The history is lent on as a part, as in `judge_access`.
@@ -225,12 +169,12 @@ fn judge_start(t: &Words, h: &[u8], s: usize, u: usize) -> u8
         return numbers::UNDECLARED;
     }
     if packed::in_force(t, policy::ROLES_RULE) {
-        return judge_start_past(t, &h[0..], past::past_of(t, &h[0..], s), u);
+        return judge_start_past(t, &h[0..], s, u);
     }
     if !packed::in_force(t, policy::LOW_WATER_RULE) {
         return numbers::GRANTED;
     }
-    judge_level(t, &h[0..], s, past::current_level(t, &h[0..], u))
+    judge_level(t, &h[0..], s, levels::current_level(t, &h[0..], u))
 }
 
 // What judging a request gives: its number, the index of its bit in a history, and how far on the next record stands.
@@ -244,10 +188,10 @@ pub struct Judged {
 fn is_unasked(t: &Words, s: usize, o: usize, write: bool) -> bool
     ensures { λ r. ⌜ r ≡ isUnasked (tablesOf (now (t .entry))) s o write ⌝ }
 {
-    if asks_past(t) {
+    if passing::asks_past(t) {
         return false;
     }
-    if asks_level(t, write) {
+    if passing::asks_level(t, write) {
         return false;
     }
     are_declared(t, s, o)

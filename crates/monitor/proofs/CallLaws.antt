@@ -19,6 +19,7 @@ use Rattle.policy.specs.Tables.{personDeclared}
 use Rattle.policy.specs.Rulebook.{given}
 use Rattle.policy.specs.History.{historyBytes}
 use Rattle.policy.specs.Request.{requestOf, setOf}
+use Rattle.policy.specs.Rules.{currentLevel}
 use Rattle.policy.specs.Calls.{
   judgeOver,
   callChecks,
@@ -174,13 +175,13 @@ module _ (t : Tables) (h : List ℕ) (s : ℕ) where
   unfolding standingNumber ladder
   standing-undeclared z d = refused-standing 13 (passed-then t h _ z ∙ rw d) (omega arith)
 
-  -- the level, and the ones in the two sets, of what the person did
+  -- the level, and the ones in the two sets of what the person did
   pub standing-is : ladder (callChecks t h) ≡ 0 → personDeclared t s ≡ true
-      → (past : Past) (rights firms : ℕ) → past ≡ pastOf t (setOf h) s
+      → (past : Past) (level rights firms : ℕ) → past ≡ pastOf t (setOf h) s → level ≡ currentLevel t (setOf h) s
       → rights ≡ countBelow 64 (bit (past .rights)) → firms ≡ countBelow 64 (bit (past .firms))
-      → record { number = 0; level = past .level; rights = rights; firms = firms } ≡ standing t h s
+      → record { number = 0; level = record { 0 = level }; rights = rights; firms = firms } ≡ standing t h s
   unfolding standing standingNumber ladder pastOf
-  standing-is z d past rights firms e p q =
+  standing-is z d past level rights firms e l p q =
       let zero : standingNumber t h s ≡ 0 = passed-then t h _ z ∙ rw d in
-      rw (p, q, e, zero)
+      rw (l, p, q, e, zero)
       (rw (used-count t (setOf h) s, opened-count t (setOf h) s))

@@ -140,8 +140,9 @@ pub fn standing(t: Tables, h: &[u8], person: u8) -> Standing
     if !packed::is_person(&words, s) {
         return no_standing(numbers::UNDECLARED);
     }
-    let did = past::past_of(&words, h, s);
-    let level = did.level;
+    let stepped = past::steps::stepped_by(h, s);
+    let did = past::past_of(&words, h, s, stepped);
+    let level = past::levels::level_with(&words, h, s, stepped);
     Standing {
         number: numbers::GRANTED,
         level,

@@ -1,65 +1,36 @@
--- The current level by the words of a history: the level after 128 folders is the level after the first 64 and then after the next 64,
--- and the bits of the word at byte 16 * s, and of the word after it, are the reads of these folders by person s. Over one word, the lowest
--- folder that was read can come first, since a folder that was not read changes nothing.
-use Prim.Native.Nat.{ℕ, zero, suc, _+_, _*_, _%_, _^_, _≤_, _<_}
-use native.Mathlib.Nat.{eq-or-lt-of-le, le-of-suc-le-suc, lt-suc-self}
+-- The current level by sets of folders: the level after 128 folders is the level after the first 64 and then after the next 64. The folders
+-- read, whose bits are the word at byte 16 * s and the word after it, can come first and then the folders stepped on, since the meet of all
+-- is the same.
+use Prim.Native.Nat.{ℕ, _+_, _*_, _%_, _<_}
 use native.Mathlib.Omega.{arith}
-use mathlib.Core.Path.{_≡_, refl, sym, ap, _∙_}
-use mathlib.Core.Logic.{⊎-elim}
-use mathlib.Core.Bool.{Bool, true, false}
+use mathlib.Core.Path.{_≡_, refl, sym, ap, ap₂, _∙_}
+use mathlib.Core.Bool.{Bool, true, false, cond, _&&_, and-or-distrib-left}
 use mathlib.Core.List.{List}
 use lib.ListN.{getD}
-use Rattle.bits.specs.Bits.{bit, withoutBit}
-use Rattle.bits.specs.Bounded.{foldBelow, lowestBelow}
-use Rattle.bits.proofs.BitLaws.{bit-zero}
-use Rattle.bits.proofs.LowestBit.{below-lowest, lowest-lt, lowest-set, same-above, none-to-lowest}
+use Rattle.bits.specs.Bits.{bit, foldSet}
+use Rattle.bits.specs.Bounded.{foldBelow}
+use Rattle.bits.proofs.Masks.{bit-mask-below, mask-ext}
+use Rattle.bits.proofs.SetFolds.{fold-ext, fold-two}
+use Rattle.level.specs.Levels.{meetOf}
+use Rattle.level.proofs.Meets.{metIf, met-either}
 use Rattle.policy.specs.declared.Tables.{Tables}
 use Rattle.policy.specs.Tables.{personAt, folderAt, personDeclared}
 use Rattle.policy.specs.History.{bitAt}
 use Rattle.policy.specs.Request.{index, setOf}
 use Rattle.policy.specs.Rules.{loweredBy, currentLevel}
 use Rattle.history.specs.Words.{wordAt}
-use Rattle.history.proofs.WordLaws.{word-bit}
-use Rattle.past.specs.Turns.{levelAfter, levelAt, levelOver}
-use Rattle.past.proofs.Recorded.{lowered}
+use Rattle.history.proofs.WordLaws.{word-bit, word-mask}
+use Rattle.past.specs.Folders.{foldersOf}
+use Rattle.past.specs.Turns.{readAt, steppedAt}
+use Rattle.past.specs.Levels.{levelAfter, levelOver, levelBySet, levelBy}
+use Rattle.past.proofs.Recorded.{did-observe}
 
--- ---- one after another
-
--- functions that agree below n give the same
-fold-ext : {A : Type 0} (n : ℕ) (f g : ℕ → A → A) (a : A) → ((k : ℕ) (x : A) → k < n → f k x ≡ g k x)
-    → foldBelow n f a ≡ foldBelow n g a
-unfolding foldBelow
-fold-ext zero f g a h = refl
-fold-ext (suc n) f g a h = h n _ (lt-suc-self n) ∙ ap (g n) (fold-ext n f g a (λ k x l. h k x (omega arith)))
-
--- the first n, and then the m after them
-fold-two : {A : Type 0} (n m : ℕ) (f : ℕ → A → A) (a : A)
-    → foldBelow (n + m) f a ≡ foldBelow m (λ k. f (n + k)) (foldBelow n f a)
-unfolding foldBelow
-fold-two n zero f a = let all : n + 0 ≡ n = omega arith in ap (λ (k : ℕ). foldBelow k f a) all
-fold-two n (suc m) f a =
-    let next : n + suc m ≡ suc (n + m) = omega arith in
-    ap (λ (k : ℕ). foldBelow k f a) next ∙ ap (f (n + m)) (fold-two n m f a)
-
--- a function that changes nothing below n gives what it starts from
-fold-none : {A : Type 0} (n : ℕ) (f : ℕ → A → A) (a : A) → ((k : ℕ) (x : A) → k < n → f k x ≡ x) → foldBelow n f a ≡ a
-unfolding foldBelow
-fold-none zero f a h = refl
-fold-none (suc n) f a h = h n _ (lt-suc-self n) ∙ fold-none n f a (λ k x l. h k x (omega arith))
-
--- f at k comes first, and then g, if f changes nothing below k, and g nothing up to k and after it the same as f
-fold-first : {A : Type 0} (n k : ℕ) (f g : ℕ → A → A) (a : A) → k < n → ((i : ℕ) (x : A) → i < k → f i x ≡ x)
-    → ((i : ℕ) (x : A) → i ≤ k → g i x ≡ x) → ((i : ℕ) (x : A) → k < i → f i x ≡ g i x) → foldBelow n f a ≡ foldBelow n g (f k a)
-unfolding foldBelow
-fold-first zero k f g a l low none same = absurd (omega arith)
-fold-first (suc n) k f g a l low none same =
-    ⊎-elim
-    (λ (e : k ≡ n).
-    rw e
-    (ap (f n) (fold-none n f a (λ i x b. low i x (omega arith)))
-    ∙ sym (none n _ (omega arith) ∙ fold-none n g (f n a) (λ i x b. none i x (omega arith)))))
-    (λ m. same n _ m ∙ ap (g n) (fold-first n k f g a m low none same))
-    (eq-or-lt-of-le (le-of-suc-le-suc l))
+-- one test after another, in the other order
+nested : (a b : Bool) (x y : ℕ) → cond a (cond b x y) y ≡ cond (b && a) x y
+nested true true x y = refl
+nested true false x y = refl
+nested false true x y = refl
+nested false false x y = refl
 
 -- ---- one word
 
@@ -70,54 +41,52 @@ word-place h at i place small l read test same =
     let own : i % 64 ≡ i = omega arith in
     test ∙ rw (own, read) (word-bit h at i small l ∙ ap (bitAt h) same)
 
--- ---- the level over one word
-
-module _ (t : Tables) (first : ℕ) where
-  -- a folder that was not read changes nothing
-  level-unread : (set i level : ℕ) → bit set i ≡ false → levelAt t set first i level ≡ level
-  unfolding levelAt levelAfter
-  level-unread set i level e = rw e
-
-  -- no folder was read
-  pub level-none : (n level : ℕ) → levelOver t 0 first n level ≡ level
-  unfolding levelOver
-  level-none n level = fold-none n (levelAt t 0 first) level (λ i x l. level-unread 0 i x (bit-zero i))
-
-  -- the lowest folder that was read comes first, and then the others
-  pub level-lowest : (w set level : ℕ) → 0 < set → set < 2 ^ w → levelOver t set first w level
-      ≡ levelOver t (withoutBit set (lowestBelow w (bit set))) first w
-      (levelAfter (folderAt t (first + lowestBelow w (bit set))) true level)
-  unfolding levelOver levelAt
-  level-lowest w set level some fits =
-      let k : ℕ = lowestBelow w (bit set) in
-      fold-first w k (levelAt t set first) (levelAt t (withoutBit set k) first) level (lowest-lt w set some fits)
-      (λ i x l. level-unread set i x (below-lowest w (bit set) i l))
-      (λ i x l. level-unread (withoutBit set k) i x (none-to-lowest w set i l))
-      (λ i x l. ap (λ (b : Bool). levelAfter (folderAt t (first + i)) b x) (sym (same-above set k i l)))
-      ∙ ap (λ (b : Bool). foldBelow w (levelAt t (withoutBit set k) first) (levelAfter (folderAt t (first + k)) b level))
-      (lowest-set w set some fits)
-
 -- ---- the level over two words
 
-module _ (t : Tables) (h : List ℕ) (s : ℕ) (person : personDeclared t s ≡ true) (small : (i : ℕ) → getD h i 0 < 256) where
-  -- a turn over a word whose first bit is the read of folder `first`
-  level-at : (at first i level : ℕ) → 8 * at ≡ 128 * s + first → first + 64 ≤ 128 → i < 64
-      → levelAt t (wordAt h at) first i level ≡ loweredBy t (setOf h) s (first + i) level
-  unfolding levelAt index
-  level-at at first i level start inside l =
-      let place : 8 * at + i ≡ 128 * s + (first + i) = omega arith in
-      ap (λ (b : Bool). levelAfter (folderAt t (first + i)) b level) (word-bit h at i small l ∙ ap (bitAt h) place)
-      ∙ lowered t h s person (first + i) level (omega arith)
-
-  -- the current level, a word at a time
-  pub level-by-words : levelOver t (wordAt h (16 * s + 8)) 64 64 (levelOver t (wordAt h (16 * s)) 0 64 (personAt t s .level .0))
-      ≡ currentLevel t (setOf h) s
-  unfolding levelOver currentLevel
-  level-by-words =
-      fold-ext 64 (levelAt t (wordAt h (16 * s + 8)) 64) (λ i. loweredBy t (setOf h) s (64 + i)) _ (λ i level l.
-      level-at (16 * s + 8) 64 i level (omega arith) (omega arith) l)
-      ∙ ap (foldBelow 64 (λ i. loweredBy t (setOf h) s (64 + i)))
-      (fold-ext 64 (levelAt t (wordAt h (16 * s)) 0) (loweredBy t (setOf h) s) _ (λ i level l.
+module _ (t : Tables) where
+  -- the folders of which p holds, as two words
+  pub level-by-set : (p : ℕ → Bool) (level : ℕ) → levelBySet t (foldersOf p) level ≡ levelBy t p level
+  unfolding levelBySet foldersOf levelBy levelOver foldSet
+  level-by-set p level =
+      let turn : ℕ → ℕ → ℕ = λ o x. cond (p o) (levelAfter (folderAt t o) x) x in
+      fold-ext 64 _ (λ i. turn (64 + i)) _ (λ i x l.
+      ap (λ (b : Bool). cond b (levelAfter (folderAt t (64 + i)) x) x) (bit-mask-below 64 (λ i. p (64 + i)) i l))
+      ∙ ap (foldBelow 64 (λ i. turn (64 + i)))
+      (fold-ext 64 _ turn _ (λ i x l.
       let none : 0 + i ≡ i = omega arith in
-      level-at (16 * s) 0 i level (omega arith) (omega arith) l ∙ ap (λ (o : ℕ). loweredBy t (setOf h) s o level) none))
-      ∙ sym (fold-two 64 64 (loweredBy t (setOf h) s) _)
+      ap₂ (λ (o : ℕ) (b : Bool). cond b (levelAfter (folderAt t o) x) x) none (bit-mask-below 64 p i l)))
+      ∙ sym (fold-two 64 64 turn level)
+
+  -- the levels of the declared folders of which p holds are met
+  level-met : (p : ℕ → Bool) (level : ℕ)
+      → levelBy t p level ≡ foldBelow 128 (metIf 12 (λ o. folderAt t o .level .0) (λ o. folderAt t o .declared && p o)) level
+  unfolding levelBy levelAfter
+  level-met p level = fold-ext 128 _ _ level (λ o x l. nested (p o) (folderAt t o .declared) _ x)
+
+module _ (t : Tables) (h : List ℕ) (s : ℕ) where
+  -- the two words of the reads
+  pub level-by-reads : ((i : ℕ) → getD h i 0 < 256) → (level : ℕ)
+      → levelOver t (wordAt h (16 * s + 8)) 64 64 (levelOver t (wordAt h (16 * s)) 0 64 level) ≡ levelBy t (readAt h s) level
+  unfolding levelBySet foldersOf readAt index
+  level-by-reads small level =
+      let low = word-mask h (16 * s) small ∙ mask-ext 64 _ (readAt h s) (λ i l. place (16 * s) i i (omega arith)) in
+      let high = word-mask h (16 * s + 8) small
+      ∙ mask-ext 64 _ (λ i. readAt h s (64 + i)) (λ i l. place (16 * s + 8) i (64 + i) (omega arith)) in
+      rw (low, high) (level-by-set t (readAt h s) level)
+    where
+      place : (at i o : ℕ) → 8 * at + i ≡ 128 * s + o → bitAt h (8 * at + i) ≡ readAt h s o
+      place at i o same = ap (bitAt h) same
+
+  -- the current level, in two parts: the folders read, and then the folders stepped on
+  pub level-in-parts : personDeclared t s ≡ true
+      → levelBy t (steppedAt h s) (levelBy t (readAt h s) (personAt t s .level .0)) ≡ currentLevel t (setOf h) s
+  unfolding currentLevel loweredBy
+  level-in-parts person =
+      let levels : ℕ → ℕ = λ o. folderAt t o .level .0 in
+      let known : ℕ → Bool = λ o. folderAt t o .declared in
+      level-met t (steppedAt h s) _
+      ∙ ap (foldBelow 128 (metIf 12 levels (λ o. known o && steppedAt h s o))) (level-met t (readAt h s) _)
+      ∙ met-either 12 levels (λ o. known o && readAt h s o) (λ o. known o && steppedAt h s o) _ 128
+      ∙ fold-ext 128 _ _ _ (λ o x l.
+      ap (λ (b : Bool). cond b (meetOf 12 x (levels o)) x)
+      (sym (and-or-distrib-left (known o) (readAt h s o) (steppedAt h s o)) ∙ sym (did-observe t h s person o l)))

@@ -3,8 +3,8 @@
 -- declared folder: its firm and its kind are in range.
 use Prim.Native.Nat.{ℕ, _+_, _*_, _/_, _<_}
 use native.Mathlib.Omega.{arith}
-use mathlib.Core.Path.{_≡_, refl, sym, _∙_}
-use mathlib.Core.Bool.{Bool, true, false, cond, not, _&&_, and-true, and-false}
+use mathlib.Core.Path.{_≡_, refl, sym, ap₂, _∙_}
+use mathlib.Core.Bool.{Bool, true, false, not, _&&_, _||_, and-true, and-false, and-comm, and-or-distrib-left}
 use mathlib.Core.List.{List}
 use lib.Dec.{eqb, leb, ltb}
 use lib.ListN.{getD}
@@ -12,16 +12,16 @@ use borrow.Author.Tests.{lt-ltb, ltb-true, le-leb, leb-true, not-false, eqb-true
 use Rattle.bits.specs.Bounded.{anyBelow, allBelow}
 use Rattle.bits.proofs.Booleans.{and-left, and-right}
 use Rattle.bits.proofs.BitLaws.{bit-zero}
-use Rattle.bits.proofs.Bounds.{all-at, none-at, none-any}
+use Rattle.bits.proofs.Bounds.{all-at, any-ext, none-at, none-any}
 use Rattle.policy.specs.declared.Folder.{Folder}
 use Rattle.policy.specs.declared.Tables.{Tables}
 use Rattle.policy.specs.Tables.{firmAt, personAt, folderAt, roleAt, enables, firmDeclared, personDeclared, folderDeclared}
 use Rattle.policy.specs.Rulebook.{given, firmGiven, personGiven, folderGiven, roleGiven, hasCircle, hasLoose}
 use Rattle.policy.specs.History.{bitAt}
 use Rattle.policy.specs.Request.{Request, read, write, start, step, index, hasPlace, setOf}
-use Rattle.policy.specs.Rules.{declared, did, loweredBy}
+use Rattle.policy.specs.Rules.{declared, did, stepped, observed}
 use Rattle.policy.proofs.Requests.{declared-place}
-use Rattle.past.specs.Turns.{stepAt, startAt, startByteAt, started, levelAfter}
+use Rattle.past.specs.Turns.{readAt, writtenAt, stepAt, steppedAt, startAt, startByteAt, started}
 
 -- ---- given tables
 
@@ -72,20 +72,18 @@ pub did-bit : (t : Tables) (h : List ℕ) (r : Request) → did t (setOf h) r �
 unfolding did setOf
 did-bit t h r = place-implied (hasPlace r) (bitAt h (index r)) (declared t r) (declared-place t r)
 
--- one test after another, in the other order
-nested : (a b : Bool) (x y : ℕ) → cond (a && b) x y ≡ cond b (cond a x y) y
-nested true true x y = refl
-nested true false x y = refl
-nested false true x y = refl
-nested false false x y = refl
+-- a test that is the same for every number
+pub any-and : (n : ℕ) (p : ℕ → Bool) (b : Bool) → anyBelow n (λ k. p k && b) ≡ anyBelow n p && b
+any-and n p true = any-ext n _ _ (λ k l. and-true (p k)) ∙ sym (and-true (anyBelow n p))
+any-and n p false = none-any n _ (λ k l. and-false (p k)) ∙ sym (and-false (anyBelow n p))
 
 module _ (t : Tables) (h : List ℕ) (s : ℕ) (person : personDeclared t s ≡ true) where
-  pub did-read : (o : ℕ) → o < 128 → did t (setOf h) (read s o) ≡ folderAt t o .declared && bitAt h (index (read s o))
-  unfolding declared folderDeclared
+  pub did-read : (o : ℕ) → o < 128 → did t (setOf h) (read s o) ≡ folderAt t o .declared && readAt h s o
+  unfolding declared folderDeclared readAt
   did-read o l = did-bit t h (read s o) ∙ rw (person, lt-ltb o 128 l)
 
-  pub did-write : (o : ℕ) → o < 128 → did t (setOf h) (write s o) ≡ folderAt t o .declared && bitAt h (index (write s o))
-  unfolding declared folderDeclared
+  pub did-write : (o : ℕ) → o < 128 → did t (setOf h) (write s o) ≡ folderAt t o .declared && writtenAt h s o
+  unfolding declared folderDeclared writtenAt
   did-write o l = did-bit t h (write s o) ∙ rw (person, lt-ltb o 128 l)
 
   pub did-step : (p o : ℕ) → p < 16 → o < 128 → did t (setOf h) (step s p o) ≡ folderAt t o .declared && stepAt h s o p
@@ -96,11 +94,19 @@ module _ (t : Tables) (h : List ℕ) (s : ℕ) (person : personDeclared t s ≡ 
   unfolding declared personDeclared startAt
   did-start u l = did-bit t h (start s u) ∙ rw (person, lt-ltb u 64 l)
 
-  -- the level after a folder, by its entry and its bit
-  pub lowered : (o level : ℕ) → o < 128
-      → levelAfter (folderAt t o) (bitAt h (index (read s o))) level ≡ loweredBy t (setOf h) s o level
-  unfolding levelAfter loweredBy
-  lowered o level l = sym (rw (did-read o l) (nested (folderAt t o .declared) (bitAt h (index (read s o))) _ level))
+  pub did-stepped : (o : ℕ) → o < 128 → stepped t (setOf h) s o ≡ folderAt t o .declared && steppedAt h s o
+  unfolding stepped steppedAt
+  did-stepped o l =
+      let known = folderAt t o .declared in
+      any-ext 16 (λ p. did t (setOf h) (step s p o)) (λ p. stepAt h s o p && known) (λ p m.
+      did-step p o m l ∙ and-comm known (stepAt h s o p))
+      ∙ any-and 16 (stepAt h s o) known ∙ and-comm (anyBelow 16 (stepAt h s o)) known
+
+  -- the person observed a declared folder whose bits say so
+  pub did-observe : (o : ℕ) → o < 128
+      → observed t (setOf h) s o ≡ folderAt t o .declared && (readAt h s o || steppedAt h s o)
+  unfolding observed
+  did-observe o l = ap₂ _||_ (did-read o l) (did-stepped o l) ∙ sym (and-or-distrib-left (folderAt t o .declared) _ _)
 
 -- ---- starts
 

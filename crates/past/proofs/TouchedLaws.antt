@@ -1,32 +1,16 @@
--- A folder on which a person did nothing adds no right, and any other adds one: a set with a bit put in is not empty.
-use Prim.Native.Nat.{ℕ, _+_, _*_, _^_}
-use native.Mathlib.Nat.{zero-mul}
-use native.Mathlib.Omega.{arith}
-use mathlib.Core.Path.{_≡_, refl, sym, ap, _∙_}
-use mathlib.Core.Bool.{Bool, true, false, false≢true}
+-- The set of the steps that a person applied to a folder is empty exactly where the person did not step on it.
+use Prim.Native.Nat.{ℕ}
+use mathlib.Core.Path.{_≡_, ap, _∙_}
+use mathlib.Core.Bool.{not}
+use mathlib.Core.List.{List}
 use lib.Dec.{eqb}
-use borrow.Author.Tests.{eq-eqb, eqb-true, eqb-false}
-use Rattle.bits.specs.Bits.{bit, withBit}
-use Rattle.bits.proofs.Booleans.{or-left, false-elim}
-use Rattle.bits.proofs.BitLaws.{bit-zero, bit-with}
-use Rattle.past.specs.Turns.{isUntouched, rightsOf}
+use Rattle.bits.specs.Bits.{bit, maskBelow}
+use Rattle.bits.proofs.Bounds.{any-ext}
+use Rattle.bits.proofs.Masks.{mask-lt, bit-mask-below, empty-none}
+use Rattle.past.specs.Turns.{stepAt, steppedAt}
 
-pub untouched-zero : (wasRead wasWritten : Bool) (steps kind : ℕ) → isUntouched wasRead wasWritten steps ≡ true
-    → rightsOf wasRead wasWritten steps kind ≡ 0
-unfolding isUntouched rightsOf
-untouched-zero true wasWritten steps kind e = absurd (false≢true e)
-untouched-zero false true steps kind e = absurd (false≢true e)
-untouched-zero false false steps kind e = ap (λ (n : ℕ). n * 2 ^ 48) (eqb-true steps 0 e) ∙ zero-mul (2 ^ 48)
-
-with-some : (n k : ℕ) → withBit n k ≡ 0 → ⊥
-with-some n k e =
-    false-elim (bit 0 k) (bit-zero k)
-    (ap (λ (m : ℕ). bit m k) (sym e) ∙ bit-with n k k ∙ or-left (eqb k k) (bit n k) (eq-eqb k k refl))
-
-pub touched-some : (wasRead wasWritten : Bool) (steps kind : ℕ) → isUntouched wasRead wasWritten steps ≡ false
-    → rightsOf wasRead wasWritten steps kind ≡ 0 → ⊥
-unfolding isUntouched rightsOf
-touched-some true true steps kind u e = with-some _ (16 + kind) e
-touched-some false true steps kind u e = with-some _ (16 + kind) e
-touched-some true false steps kind u e = with-some _ kind e
-touched-some false false steps kind u e = eqb-false steps 0 u (omega arith)
+pub steps-none : (h : List ℕ) (s o : ℕ) → eqb (maskBelow 16 (stepAt h s o)) 0 ≡ not (steppedAt h s o)
+unfolding steppedAt
+steps-none h s o =
+    empty-none 16 (maskBelow 16 (stepAt h s o)) (mask-lt 16 (stepAt h s o))
+    ∙ ap not (any-ext 16 (bit (maskBelow 16 (stepAt h s o))) (stepAt h s o) (bit-mask-below 16 (stepAt h s o)))

@@ -1,2 +1,4 @@
+pub mod Folders
 pub mod Past
 pub mod Turns
+pub mod Levels

@@ -1,21 +1,19 @@
--- What a person did: the current level, the set of the rights used, the set of the firms opened and the set of the firms that the wall
--- counts.
+-- What a person did: the set of the rights used, the set of the firms opened and the set of the firms that the wall counts.
 use Prim.Native.Nat.{ℕ}
 use mathlib.Core.Bool.{Bool, _&&_, _||_}
 use lib.Dec.{eqb}
 use Rattle.bits.specs.Bits.{maskBelow}
 use Rattle.policy.specs.declared.Tables.{Tables}
-use Rattle.bits.specs.Bounded.{anyBelow, foldBelow}
-use Rattle.policy.specs.Tables.{personAt, folderAt}
+use Rattle.bits.specs.Bounded.{anyBelow}
+use Rattle.policy.specs.Tables.{folderAt}
 use Rattle.policy.specs.Request.{Request, read, write, step}
-use Rattle.policy.specs.Rules.{right, did, accessed, counts, loweredBy, currentLevel, used, opened, counted}
+use Rattle.policy.specs.Rules.{right, did, accessed, counts, used, opened, counted}
 use Rattle.past.specs.declared.Past.{Past}
 
 -- what person s did, over the set H of the requests granted so far
 unfoldable pub pastOf : Tables → (Request → Bool) → ℕ → Past
 pastOf t H s =
     record {
-      level = record { 0 = currentLevel t H s };
       rights = maskBelow 64 (used t H s);
       firms = maskBelow 64 (opened t H s);
       counted = maskBelow 64 (counted t H s);
@@ -40,7 +38,6 @@ firmsBelow t p n = maskBelow 64 (λ f. anyBelow n (firmOn t p f))
 unfoldable pub pastBelow : Tables → (Request → Bool) → ℕ → ℕ → Past
 pastBelow t H s n =
     record {
-      level = record { 0 = foldBelow n (loweredBy t H s) (personAt t s .level .0) };
       rights = maskBelow 64 (λ x. anyBelow n (usedOn t H s x));
       firms = firmsBelow t (accessed t H s) n;
       counted = firmsBelow t (counts t H s) n;

@@ -1,9 +1,9 @@
--- What a set of granted requests says of persons and folders: who accessed what, which firms that opens and the wall counts, which requests
--- a person made, which steps were done.
+-- What a set of granted requests says of persons and folders: who accessed what, which firms that opens and the wall counts, who read or
+-- stepped on what, which requests a person made, which steps were done.
 -- Each bounded search finds exactly the requests of the set, since a declared request has numbers within the bounds.
 use Prim.Native.Nat.{ℕ, _<_}
 use mathlib.Core.Path.{_≡_, refl, sym, ap}
-use mathlib.Core.Logic.{⊎-elim}
+use mathlib.Core.Logic.{inl, inr, ⊎-elim}
 use mathlib.Core.Bool.{Bool, true, not, _&&_, _||_}
 use lib.Dec.{eqb, leb, ltb}
 use borrow.Author.Tests.{ltb-true, eqb-true, eq-eqb, not-true}
@@ -13,8 +13,8 @@ use Rattle.bits.proofs.Bounds.{any-some, some-any}
 use Rattle.policy.specs.declared.Tables.{Tables}
 use Rattle.policy.specs.Tables.{folderAt, personDeclared, folderDeclared}
 use Rattle.policy.specs.Request.{Request, read, write, start, step, subject, hasPlace}
-use Rattle.policy.specs.Rules.{declared, someRequest, firmOfSome, did, accessed, opened, counts, counted, done}
-use Rattle.policy.specs.Published.{NotPublic, Access, InHistory, Accessed, Applied}
+use Rattle.policy.specs.Rules.{declared, someRequest, firmOfSome, did, stepped, accessed, opened, counts, counted, observed, done}
+use Rattle.policy.specs.Published.{NotPublic, Access, InHistory, Accessed, Observed, Applied}
 use Rattle.policy.proofs.Requests.{person-below, folder-below, declared-person, declared-step}
 
 -- the folder of an access is declared
@@ -92,7 +92,7 @@ module _ (t : Tables) (H : Request → Bool) where
   -- ---- accesses
 
   pub accessed-some : (s o : ℕ) → accessed t H s o ≡ true → Accessed t H s o
-  unfolding accessed
+  unfolding accessed stepped
   accessed-some s o e =
       ⊎-elim
       (λ c.
@@ -102,7 +102,7 @@ module _ (t : Tables) (H : Request → Bool) where
       (or-cases (did t H (read s o) || did t H (write s o)) _ e)
 
   access-counts : (r : Request) (s o : ℕ) → InHistory t H r → Access r s o → accessed t H s o ≡ true
-  unfolding accessed
+  unfolding accessed stepped
   access-counts (read s o) s′ o′ h a = rw (← a .0, ← a .1) (or-left _ _ (or-left _ _ (in-did (read s o) h)))
   access-counts (write s o) s′ o′ h a =
       rw (← a .0, ← a .1) (or-left _ _ (or-right (did t H (read s o)) _ (in-did (write s o) h)))
@@ -147,6 +147,26 @@ module _ (t : Tables) (H : Request → Bool) where
   pub some-counted : (s f o : ℕ) → Accessed t H s o → NotPublic t o → f ≡ folderAt t o .firm → counted t H s f ≡ true
   unfolding counted
   some-counted s f o a n = some-firm t (counts t H s) f o (accessed-below s o a) (some-counts s o a n)
+
+  -- ---- what a person observed
+
+  pub observed-some : (s o : ℕ) → observed t H s o ≡ true → Observed t H s o
+  unfolding observed stepped
+  observed-some s o e =
+      ⊎-elim (λ d. inl (did-in (read s o) d))
+      (λ c. let (p, l, d) = any-some 16 (λ p. did t H (step s p o)) c in inr (p, did-in (step s p o) d))
+      (or-cases (did t H (read s o)) _ e)
+
+  pub some-observed : (s o : ℕ) → Observed t H s o → observed t H s o ≡ true
+  unfolding observed stepped
+  some-observed s o (inl h) = or-left _ _ (in-did (read s o) h)
+  some-observed s o (inr (p, h)) =
+      or-right (did t H (read s o)) _
+      (some-any 16 (λ p. did t H (step s p o)) p (declared-step t s p o (h .0)) (in-did (step s p o) h))
+
+  pub observed-below : (s o : ℕ) → Observed t H s o → o < 128
+  observed-below s o (inl h) = folder-below t o (access-declared t (read s o) s o (h .0) (refl, refl))
+  observed-below s o (inr (p, h)) = folder-below t o (access-declared t (step s p o) s o (h .0) (refl, refl))
 
   -- ---- steps
 

@@ -39,6 +39,9 @@ pub mod Standings
 pub mod WallNumber
 pub mod MarksAlone
 pub mod PublicFolders
+pub mod Lowering
+pub mod LevelNumber
+pub mod StepsAlter
 pub mod Blanks
 pub mod SetPlaces
 pub mod Agreement

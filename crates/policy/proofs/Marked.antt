@@ -1,4 +1,4 @@
--- The marked cases P1 to P10 hold of the definitions, by computation.
+-- The marked cases P1 to P10, and the case of steps that alter, hold of the definitions, by computation.
 use mathlib.Core.Path.{refl}
 use Rattle.bits.specs.Bits.{bit, withBit}
 use Rattle.bits.specs.Bounded.{anyBelow, allBelow, foldBelow}
@@ -41,6 +41,7 @@ use Rattle.policy.specs.Rules.{
   declared,
   right,
   did,
+  stepped,
   accessed,
   firmOfSome,
   counts,
@@ -48,6 +49,7 @@ use Rattle.policy.specs.Rules.{
   otherClass,
   wallAccess,
   wall,
+  observed,
   loweredBy,
   currentLevel,
   someRequest,
@@ -58,6 +60,7 @@ use Rattle.policy.specs.Rules.{
   leadsTo,
   pipelineStep,
   pipeline,
+  mayModify,
   lowWater,
 }
 use Rattle.policy.specs.Calls.{
@@ -79,9 +82,9 @@ unfolding
     bit withBit anyBelow allBelow foldBelow rankOf compartmentsOf levelOf atMost meetOf ladder emptyTables enables
     firmDeclared personDeclared folderDeclared roleDeclared classOf inForce bodyLength littleEndian recordOf inRange
     declaredBefore firmStands folderStands entersCreate recordChecks madePublic declare reaches hasCircle isLoose hasLoose endChecks
-    refusedBook ended loadFrom loadBook subject two three requestOf recordLength same member declared right did accessed firmOfSome
-    counts counted otherClass wallAccess wall loweredBy currentLevel someRequest used roleCovers roles done leadsTo pipelineStep
-    pipeline lowWater restOf requestChecks judgeOver addedIf judgeList afterRecord callsFrom callsOf grantedIn refusedIn wallAnswer
+    refusedBook ended loadFrom loadBook subject two three requestOf recordLength same member declared right did stepped accessed firmOfSome
+    counts counted otherClass wallAccess wall observed loweredBy currentLevel someRequest used roleCovers roles done leadsTo pipelineStep
+    pipeline mayModify lowWater restOf requestChecks judgeOver addedIf judgeList afterRecord callsFrom callsOf grantedIn refusedIn wallAnswer
     lowWaterAnswer withTotals
 marked-cases =
     record {
@@ -97,4 +100,5 @@ marked-cases =
       P9-one = refl;
       P9-other = refl;
       P10 = refl;
+      steps = refl;
     }

@@ -43,6 +43,7 @@ use Rattle.policy.specs.Rules.{
   someRequest,
   firmOfSome,
   did,
+  stepped,
   accessed,
   opened,
   counts,
@@ -50,6 +51,7 @@ use Rattle.policy.specs.Rules.{
   otherClass,
   wallAccess,
   wall,
+  observed,
   loweredBy,
   currentLevel,
   used,
@@ -59,6 +61,7 @@ use Rattle.policy.specs.Rules.{
   leadsTo,
   pipelineStep,
   pipeline,
+  mayModify,
   lowWater,
 }
 use Rattle.policy.specs.Calls.{requestChecks, callChecks, standingNumber, standing}
@@ -119,11 +122,17 @@ module _ (t t′ : Tables) (same : SameButMarks t t′) where
     unfolding did
     did-same q = ap (λ (b : Bool). H q && b) (parties-same q)
 
+    stepped-same : (s i : ℕ) → stepped t H s i ≡ stepped t′ H s i
+    unfolding stepped
+    stepped-same s i = ap (anyBelow 16) (fun-ext (λ p. did-same (step s p i)))
+
     accessed-same : (s i : ℕ) → accessed t H s i ≡ accessed t′ H s i
     unfolding accessed
-    accessed-same s i =
-        ap₂ _||_ (ap₂ _||_ (did-same (read s i)) (did-same (write s i)))
-        (ap (anyBelow 16) (fun-ext (λ p. did-same (step s p i))))
+    accessed-same s i = ap₂ _||_ (ap₂ _||_ (did-same (read s i)) (did-same (write s i))) (stepped-same s i)
+
+    observed-same : (s i : ℕ) → observed t H s i ≡ observed t′ H s i
+    unfolding observed
+    observed-same s i = ap₂ _||_ (did-same (read s i)) (stepped-same s i)
 
     opened-same : (s f : ℕ) → opened t H s f ≡ opened t′ H s f
     unfolding opened firmOfSome
@@ -140,7 +149,7 @@ module _ (t t′ : Tables) (same : SameButMarks t t′) where
 
     lowered-same : (s o l : ℕ) → loweredBy t H s o l ≡ loweredBy t′ H s o l
     unfolding loweredBy
-    lowered-same s o l = ap₂ (λ (b : Bool) (x : ℕ). cond b (meetOf 12 l x) l) (did-same (read s o)) (same .folders o .level)
+    lowered-same s o l = ap₂ (λ (b : Bool) (x : ℕ). cond b (meetOf 12 l x) l) (observed-same s o) (same .folders o .level)
 
     level-same : currentLevel t H ≡ currentLevel t′ H
     unfolding currentLevel
@@ -148,12 +157,16 @@ module _ (t t′ : Tables) (same : SameButMarks t t′) where
         fun-ext (λ s. ap₂ (λ (f : ℕ → ℕ → ℕ) (first : ℕ). foldBelow 128 f first) (fun-ext (λ o. fun-ext (λ l. lowered-same s o l)))
         (ap (λ (l : List Person). getD l s noPerson .level .0) (same .persons)))
 
+    modify-same : (s o : ℕ) → mayModify t (currentLevel t H) s o ≡ mayModify t′ (currentLevel t′ H) s o
+    unfolding mayModify
+    modify-same s o = ap₂ (λ (x : ℕ) (f : ℕ → ℕ). atMost 12 x (f s)) (same .folders o .level) level-same
+
     low-water-same : (r : Request) → lowWater t (currentLevel t H) r ≡ lowWater t′ (currentLevel t′ H) r
     unfolding lowWater
     low-water-same (read s o) = refl
-    low-water-same (write s o) = ap₂ (λ (x : ℕ) (f : ℕ → ℕ). atMost 12 x (f s)) (same .folders o .level) level-same
+    low-water-same (write s o) = modify-same s o
     low-water-same (start s u) = ap (λ (f : ℕ → ℕ). atMost 12 (f u) (f s)) level-same
-    low-water-same (step s p o) = refl
+    low-water-same (step s p o) = modify-same s o
 
     covers-same : (r : Request) (k : ℕ) → roleCovers t H r k ≡ roleCovers t′ H r k
     unfolding roleCovers

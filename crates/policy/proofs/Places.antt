@@ -161,11 +161,15 @@ set-bytes (x ∷ h) zero v l b (suc i) = b (suc i)
 set-bytes (x ∷ h) (suc k) v l b zero = b 0
 set-bytes (x ∷ h) (suc k) v l b (suc i) = set-bytes h k v l (λ n. b (suc n)) i
 
+pub size-recorded : (h : List ℕ) (r : Request) → length (recorded h r) ≡ length h
+unfolding recorded withBitAt
+size-recorded h r = length-set h _ _
+
 pub sized-recorded : (h : List ℕ) (r : Request) → Sized h → Sized (recorded h r)
 unfolding recorded withBitAt
 sized-recorded h r z =
     record {
-      size = length-set h _ _ ∙ z .size;
+      size = size-recorded h r ∙ z .size;
       bytes = set-bytes h _ _ (with-lt 8 _ (index r % 8) (z .bytes (index r / 8)) (omega arith)) (z .bytes);
     }
 

@@ -16,7 +16,7 @@ use Rattle.policy.specs.Tables.{folderAt, classOf, isPublic, inForce, wa
 use Rattle.policy.specs.Rulebook.{given}
 use Rattle.policy.specs.History.{historyBytes}
 use Rattle.policy.specs.Request.{Request, read, write, start, step, requestOf, setOf}
-use Rattle.policy.specs.Rules.{declared, firmOfSome, did, accessed, counts, counted, otherClass, wallAccess, wall}
+use Rattle.policy.specs.Rules.{declared, firmOfSome, did, stepped, accessed, counts, counted, otherClass, wallAccess, wall}
 use Rattle.policy.specs.Calls.{requestChecks, callChecks, judgeNumber}
 use Rattle.policy.specs.Published.{NotPublic, Access}
 use Rattle.policy.specs.PublicFolders.{SameButPublic, PublicFolders}
@@ -42,7 +42,7 @@ module _ (t : Tables) (H H′ : Request → Bool)
   same-did q s o a n = ap (λ (b : Bool). b && declared t q) (same q s o a n)
 
   same-accessed : (s o : ℕ) → NotPublic t o → accessed t H s o ≡ accessed t H′ s o
-  unfolding accessed
+  unfolding accessed stepped
   same-accessed s o n =
       ap₂ _||_ (ap₂ _||_ (same-did (read s o) s o (refl, refl) n) (same-did (write s o) s o (refl, refl) n))
       (ap (anyBelow 16) (fun-ext (λ p. same-did (step s p o) s o (refl, refl) n)))

@@ -1,16 +1,15 @@
 -- Each rule grants exactly where its published form holds. A bounded search for a folder, a role or a step finds one exactly where
 -- there is one, since what the set holds is declared and so within the bounds; and a level is at most a meet exactly where it is at
 -- most each part.
-use Prim.Native.Nat.{ℕ, zero, suc, _<_}
-use native.Mathlib.Nat.{eq-or-lt-of-le, le-of-suc-le-suc, not-suc-le-zero, lt-suc-self}
+use Prim.Native.Nat.{ℕ, zero, suc}
 use native.Mathlib.Omega.{arith}
 use mathlib.Core.Path.{_≡_, refl, sym, ap, _∙_}
 use mathlib.Core.Logic.{_⊎_, inl, inr, ⊎-elim, _↔_, _≢_}
-use mathlib.Core.Bool.{Bool, true, false, cond, not, _&&_, _||_}
+use mathlib.Core.Bool.{Bool, true, not, _&&_, _||_}
 use lib.Dec.{eqb}
 use borrow.Author.Tests.{eqb-false, ne-eqb, not-true}
 use Rattle.bits.specs.Bits.{bit}
-use Rattle.bits.specs.Bounded.{anyBelow, foldBelow, _implies_}
+use Rattle.bits.specs.Bounded.{anyBelow, _implies_}
 use Rattle.bits.proofs.Booleans.{
   and-left,
   and-right,
@@ -25,8 +24,9 @@ use Rattle.bits.proofs.Booleans.{
   false-intro,
 }
 use Rattle.bits.proofs.Bounds.{any-some, some-any, all-at, all-of}
-use Rattle.level.specs.Levels.{atMost, meetOf}
-use Rattle.level.proofs.LevelLaws.{atMost-refl, atMost-antisym, split}
+use Rattle.level.specs.Levels.{atMost}
+use Rattle.level.proofs.LevelLaws.{atMost-refl, atMost-antisym}
+use Rattle.level.proofs.Meets.{met-below}
 use Rattle.policy.specs.declared.Tables.{Tables}
 use Rattle.policy.specs.Tables.{personAt, folderAt, roleAt, enables, roleDeclared, classOf, isPublic}
 use Rattle.policy.specs.Request.{Request, read, write, start, step, subject}
@@ -39,8 +39,10 @@ use Rattle.policy.specs.Rules.{
   otherClass,
   wallAccess,
   wall,
+  observed,
   loweredBy,
   currentLevel,
+  mayModify,
   lowWater,
   roleCovers,
   roles,
@@ -64,9 +66,8 @@ use Rattle.policy.specs.Published.{
   Applied,
   Pipeline,
 }
-use Rattle.policy.proofs.Requests.{folder-below, role-below, declared-place}
+use Rattle.policy.proofs.Requests.{role-below, declared-place}
 use Rattle.policy.proofs.Accesses.{
-  access-declared,
   some-request,
   request-some,
   did-in,
@@ -76,6 +77,9 @@ use Rattle.policy.proofs.Accesses.{
   some-counts,
   counted-some,
   some-counted,
+  observed-some,
+  some-observed,
+  observed-below,
   done-applied,
   applied-done,
   applied-below,
@@ -155,68 +159,14 @@ module _ (t : Tables) (H : Request → Bool) where
 
   -- ---- low-water
 
-  -- the current level is the meet: what is at most it is what is at most the first level and the level of every folder read
-  level-below : (s c n : ℕ) → atMost 12 c (foldBelow n (loweredBy t H s) (personAt t s .level .0)) ≡ true
-      → (atMost 12 c (personAt t s .level .0) ≡ true)
-      × ((o : ℕ) → o < n → did t H (read s o) ≡ true → atMost 12 c (folderAt t o .level .0) ≡ true)
-  unfolding foldBelow loweredBy
-  level-below s c zero e = (e, λ o l. absurd (not-suc-le-zero l))
-  level-below s c (suc n) e = go (did t H (read s n)) refl (level-below s c n) e
-    where
-      below : ℕ
-      below = foldBelow n (loweredBy t H s) (personAt t s .level .0)
-
-      Below : ℕ → Type 0
-      Below m =
-          (atMost 12 c (personAt t s .level .0) ≡ true)
-          × ((o : ℕ) → o < m → did t H (read s o) ≡ true → atMost 12 c (folderAt t o .level .0) ≡ true)
-
-      go : (b : Bool) → did t H (read s n) ≡ b → (atMost 12 c below ≡ true → Below n)
-          → atMost 12 c (cond b (meetOf 12 below (folderAt t n .level .0)) below) ≡ true → Below (suc n)
-      go true d ih e =
-          let both : atMost 12 c below && atMost 12 c (folderAt t n .level .0) ≡ true =
-          sym (split 12 below (folderAt t n .level .0) c) ∙ e in
-          let first = ih (and-left (atMost 12 c below) _ both) in (
-            first .0,
-            λ o l d′.
-                ⊎-elim (λ (q : o ≡ n). rw q (and-right (atMost 12 c below) _ both)) (λ k. first .1 o k d′)
-                (eq-or-lt-of-le (le-of-suc-le-suc l)),
-          )
-      go false d ih e =
-          let first = ih e in (
-            first .0,
-            λ o l d′.
-                ⊎-elim (λ (q : o ≡ n). absurd (false-elim (did t H (read s n)) d (rw q at d′))) (λ k. first .1 o k d′)
-                (eq-or-lt-of-le (le-of-suc-le-suc l)),
-          )
-
-  below-level : (s c n : ℕ) → atMost 12 c (personAt t s .level .0) ≡ true
-      → ((o : ℕ) → o < n → did t H (read s o) ≡ true → atMost 12 c (folderAt t o .level .0) ≡ true)
-      → atMost 12 c (foldBelow n (loweredBy t H s) (personAt t s .level .0)) ≡ true
-  unfolding foldBelow loweredBy
-  below-level s c zero f h = f
-  below-level s c (suc n) f h =
-      go (did t H (read s n)) refl (below-level s c n f (λ o l. h o (omega arith)))
-    where
-      below : ℕ
-      below = foldBelow n (loweredBy t H s) (personAt t s .level .0)
-
-      go : (b : Bool) → did t H (read s n) ≡ b → atMost 12 c below ≡ true
-          → atMost 12 c (cond b (meetOf 12 below (folderAt t n .level .0)) below) ≡ true
-      go true d e = split 12 below (folderAt t n .level .0) c ∙ and-both _ _ e (h n (lt-suc-self n) d)
-      go false d e = e
-
+  -- the current level is the meet: what is at most it is what is at most the first level and the level of every folder observed
   pub level-is-meet : (s : ℕ) → IsCurrentLevel t H s (currentLevel t H s)
-  unfolding currentLevel
-  level-is-meet s c = (
-    λ e.
-        let b = level-below s c 128 e in (
-          b .0,
-          λ o h.
-              b .1 o (folder-below t o (access-declared t (read s o) s o (h .0) (refl, refl))) (in-did t H (read s o) h),
-        ),
-    λ w. below-level s c 128 (w .0) (λ o l d. w .1 o (did-in t H (read s o) d)),
-  )
+  unfolding currentLevel loweredBy
+  level-is-meet s c =
+      let met = met-below 12 (λ o. folderAt t o .level .0) (observed t H s) (personAt t s .level .0) 128 c in (
+        λ e. let below = met .0 e in (below .0, λ o w. below .1 o (observed-below t H s o w) (some-observed t H s o w)),
+        λ below. met .1 (below .0, λ o l d. below .1 o (observed-some t H s o d)),
+      )
 
   -- a person has one current level
   pub one-level : (s a b : ℕ) → IsCurrentLevel t H s a → IsCurrentLevel t H s b → a ≡ b
@@ -230,11 +180,11 @@ module _ (t : Tables) (H : Request → Bool) where
   )
 
   pub low-water-published : (r : Request) → (lowWater t (currentLevel t H) r ≡ true) ↔ LowWater t H r
-  unfolding lowWater
+  unfolding lowWater mayModify
   low-water-published (read s o) = (λ e. tt, λ w. refl)
   low-water-published (write s o) = level-is-meet s (folderAt t o .level .0)
   low-water-published (start s u) = start-levels s u
-  low-water-published (step s p o) = (λ e. tt, λ w. refl)
+  low-water-published (step s p o) = level-is-meet s (folderAt t o .level .0)
 
   -- ---- roles
 

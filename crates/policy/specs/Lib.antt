@@ -14,4 +14,5 @@ pub mod Counting
 pub mod Agreement
 pub mod Demands
 pub mod PublicFolders
+pub mod StepsAlter
 pub mod Marked

@@ -1,4 +1,4 @@
--- The marked cases P1 to P10 of document 01: what is asked, and what is answered.
+-- The marked cases P1 to P10 of document 01, and a case of document 02, Point 2: what is asked, and what is answered.
 use Prim.Native.Nat.{ℕ}
 use mathlib.Core.Path.{_≡_}
 use mathlib.Core.Bool.{Bool}
@@ -54,6 +54,22 @@ lowWaterBook =
     ∷ 0
     ∷ []
 
+-- Point 2: low-water alone; person 0 at 0x2003, folder 0 at 0x2003, folder 1 at 0x1001, folder 2 at 0x1004. Step 5 on folder 1 lowers the
+-- person to 0x1001: folder 0 has a higher rank, folder 2 another compartment, and step 0 on folder 1 is granted
+abbrev pub stepsBook : List ℕ
+stepsBook =
+    1 ∷ 2
+    ∷ 2 ∷ 0 ∷ 0
+    ∷ 3 ∷ 0 ∷ 3 ∷ 32
+    ∷ 4 ∷ 0 ∷ 0 ∷ 0 ∷ 3 ∷ 32
+    ∷ 4 ∷ 1 ∷ 0 ∷ 0 ∷ 1 ∷ 16
+    ∷ 4 ∷ 2 ∷ 0 ∷ 0 ∷ 4 ∷ 16
+    ∷ 0
+    ∷ []
+
+abbrev pub stepsRequests : List ℕ
+stepsRequests = 19 ∷ 0 ∷ 5 ∷ 1 ∷ 17 ∷ 0 ∷ 0 ∷ 19 ∷ 0 ∷ 3 ∷ 2 ∷ 19 ∷ 0 ∷ 0 ∷ 1 ∷ []
+
 -- the answers of a book and the requests after it, from the empty set
 abbrev pub played : List ℕ → List ℕ
 played bytes = judgeList (loadBook bytes .tables) [] (callsOf (restOf bytes))
@@ -72,7 +88,7 @@ lowWaterAnswer t H r = ladder ((lowWater t (currentLevel t H) r else 15) ∷ [])
 unfoldable pub withTotals : List ℕ → List ℕ
 withTotals answers = answers ++ grantedIn answers ∷ refusedIn answers ∷ []
 
--- the table: what the definitions give in each case, and what document 01 prints
+-- the table: what the definitions give in each case, and what is answered
 pub record MarkedCases : Type 0 where
   pub P1 :
       withTotals (played (printedBook ++ printedRequests))
@@ -88,3 +104,4 @@ pub record MarkedCases : Type 0 where
   pub P9-one : wallAnswer (loadBook printedBook .tables) (member (read 0 0 ∷ read 0 1 ∷ [])) (read 0 0) ≡ 0
   pub P9-other : wallAnswer (loadBook printedBook .tables) (member (read 0 0 ∷ read 0 1 ∷ [])) (read 0 1) ≡ 0
   pub P10 : played (bookWith (3 ∷ 0 ∷ 3 ∷ 0 ∷ 1 ∷ 0 ∷ 3 ∷ 0 ∷ []) ++ 19 ∷ 1 ∷ 2 ∷ 2 ∷ []) ≡ 16 ∷ []
+  pub steps : played (stepsBook ++ stepsRequests) ≡ 0 ∷ 15 ∷ 15 ∷ 0 ∷ []

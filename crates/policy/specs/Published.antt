@@ -72,24 +72,29 @@ module _ (t : Tables) (H : Request → Bool) where
   abbrev pub Wall : Request → Type 0
   Wall r = (s o : ℕ) → Access r s o → NotPublic t o → WallAccess s o
 
-  -- the level is a person's current level, the meet of the first level and the levels of all folders that the person has read: what is
-  -- at most it is what is at most each of these
-  abbrev pub IsCurrentLevel : ℕ → ℕ → Type 0
-  IsCurrentLevel s level =
-      (c : ℕ)
-      → (atMost 12 c level ≡ true)
-      ↔ ((atMost 12 c (personAt t s .level .0) ≡ true)
-      × ((o : ℕ) → InHistory (read s o) → atMost 12 c (folderAt t o .level .0) ≡ true))
+  -- read(s, o) ∈ H, or, with document 02, Point 2, a step by s on o: the person has read the folder or stepped on it
+  abbrev pub Observed : ℕ → ℕ → Type 0
+  Observed s o = InHistory (read s o) ⊎ ((p : ℕ) × InHistory (step s p o))
 
-  -- 4.2, with the initial history: write is defined where l[o] ≤ l[o′] for all read(s, o′) ∈ H, and l[o] ≤ the first level of s;
-  -- read always. Start is document 01's: rule 3 with meets, l[u] ≤ l[s] of the current levels. Step passes.
+  -- c is at most the first level of s, and at most the level of every folder that s has read or stepped on
+  abbrev pub BelowAll : ℕ → ℕ → Type 0
+  BelowAll c s =
+      (atMost 12 c (personAt t s .level .0) ≡ true)
+      × ((o : ℕ) → Observed s o → atMost 12 c (folderAt t o .level .0) ≡ true)
+
+  -- the level is a person's current level, the meet of the first level and the levels of all folders that the person has read or stepped
+  -- on: what is at most it is what is at most each of these
+  abbrev pub IsCurrentLevel : ℕ → ℕ → Type 0
+  IsCurrentLevel s level = (c : ℕ) → (atMost 12 c level ≡ true) ↔ BelowAll c s
+
+  -- 4.2, with the initial history: write is defined where l[o] ≤ l[o′] for all read(s, o′) ∈ H, and l[o] ≤ the first level of s, and so
+  -- is step (02, Point 2), with the folders o′ stepped on beside those read; read always. Start is document 01's: rule 3 with meets,
+  -- l[u] ≤ l[s] of the current levels.
   abbrev pub LowWater : Request → Type 0
   LowWater (read s o) = Unit {0}
-  LowWater (write s o) =
-      (atMost 12 (folderAt t o .level .0) (personAt t s .level .0) ≡ true)
-      × ((o′ : ℕ) → InHistory (read s o′) → atMost 12 (folderAt t o .level .0) (folderAt t o′ .level .0) ≡ true)
+  LowWater (write s o) = BelowAll (folderAt t o .level .0) s
   LowWater (start s u) = (a b : ℕ) → IsCurrentLevel u a → IsCurrentLevel s b → atMost 12 a b ≡ true
-  LowWater (step s p o) = Unit {0}
+  LowWater (step s p o) = BelowAll (folderAt t o .level .0) s
 
   -- 4.3: H ∪ {r} ⊆ C for some class C of permitted accesses; a role permits the requests of one person whose rights are in it
   abbrev pub Roles : Request → Type 0

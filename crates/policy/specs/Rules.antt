@@ -1,4 +1,4 @@
--- The four rules (document 01, "Four rules", and document 02, Point 1) over the tables and the set H of the requests granted so far.
+-- The four rules (document 01, "Four rules", and document 02, Points 1 and 2) over the tables and the set H of the requests granted so far.
 use Prim.Native.Nat.{ℕ, zero, suc, _+_}
 use mathlib.Core.Bool.{Bool, true, cond, not, _&&_, _||_}
 use lib.Dec.{eqb, leb}
@@ -48,9 +48,13 @@ module _ (t : Tables) (H : Request → Bool) where
   unfoldable pub did : Request → Bool
   did r = H r && declared t r
 
+  -- person s stepped on folder o: applied some step to it
+  unfoldable pub stepped : ℕ → ℕ → Bool
+  stepped s o = anyBelow 16 (λ p. did (step s p o))
+
   -- person s accessed folder o: by a read, a write or a step
   unfoldable pub accessed : ℕ → ℕ → Bool
-  accessed s o = did (read s o) || did (write s o) || anyBelow 16 (λ p. did (step s p o))
+  accessed s o = did (read s o) || did (write s o) || stepped s o
 
   -- person s accessed some folder of firm f, public or not: the firms opened, of standing
   unfoldable pub opened : ℕ → ℕ → Bool
@@ -80,9 +84,13 @@ module _ (t : Tables) (H : Request → Bool) where
   wall (start s u) = true
   wall (step s p o) = wallAccess s o
 
-  -- the level l after folder o, if person s has read it
+  -- person s observed folder o: has read it or stepped on it
+  unfoldable pub observed : ℕ → ℕ → Bool
+  observed s o = did (read s o) || stepped s o
+
+  -- the level l after folder o, if person s observed it
   unfoldable pub loweredBy : ℕ → ℕ → ℕ → ℕ
-  loweredBy s o l = cond (did (read s o)) (meetOf 12 l (folderAt t o .level .0)) l
+  loweredBy s o l = cond (observed s o) (meetOf 12 l (folderAt t o .level .0)) l
 
   -- a person's current level
   unfoldable pub currentLevel : ℕ → ℕ
@@ -121,9 +129,13 @@ module _ (t : Tables) (H : Request → Bool) where
   pipeline (start s u) = true
   pipeline (step s p o) = pipelineStep p o
 
+-- person s, whose current level is `levels s`, may modify folder o: by a write, or by a step, which alters the folder too
+unfoldable pub mayModify : Tables → (ℕ → ℕ) → ℕ → ℕ → Bool
+mayModify t levels s o = atMost 12 (folderAt t o .level .0) (levels s)
+
 -- low-water, over a current level for each person
 unfoldable pub lowWater : Tables → (ℕ → ℕ) → Request → Bool
 lowWater t levels (read s o) = true
-lowWater t levels (write s o) = atMost 12 (folderAt t o .level .0) (levels s)
+lowWater t levels (write s o) = mayModify t levels s o
 lowWater t levels (start s u) = atMost 12 (levels u) (levels s)
-lowWater t levels (step s p o) = true
+lowWater t levels (step s p o) = mayModify t levels s o

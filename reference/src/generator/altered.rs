@@ -1,6 +1,7 @@
 //! Scenes of histories that no list leaves and of tables with fields changed.
 
-use super::books::{good_book, Plan};
+use super::books::good_book;
+use super::plans::Plan;
 use super::Generator;
 use crate::calls::answers_due;
 use crate::fields::field;

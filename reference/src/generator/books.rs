@@ -1,89 +1,7 @@
 //! Books for the files of calls: good ones of any size, and refused ones.
 
+use super::plans::{Plan, LONGEST_ROW};
 use crate::random::Random;
-
-/// How much a book declares.
-#[derive(Clone, Copy)]
-pub struct Plan {
-    pub mask: u8,
-    pub firms: usize,
-    pub classes: usize,
-    pub persons: usize,
-    pub folders: usize,
-    /// How many folders in a hundred are public.
-    pub public: usize,
-    pub roles: usize,
-    /// How many rights in a hundred a role has, one of these for each role.
-    pub rights: &'static [usize],
-    pub steps: usize,
-}
-
-/// Wide roles, so that much is granted, and some narrow ones.
-const WIDE_AND_NARROW: &[usize] = &[97, 97, 90, 90, 70, 40, 10];
-
-/// Shares of public folders: few, some or many.
-const PUBLIC: &[usize] = &[15, 30, 45];
-
-/// Roles that refuse much.
-const NARROW: &[usize] = &[85, 70, 50];
-
-impl Plan {
-    pub fn small(random: &mut Random, mask: u8) -> Plan {
-        Plan {
-            mask,
-            firms: random.between(2, 6),
-            classes: random.between(1, 4),
-            persons: random.between(2, 6),
-            folders: random.between(4, 10),
-            public: random.pick(PUBLIC),
-            roles: random.between(1, 4),
-            rights: WIDE_AND_NARROW,
-            steps: random.between(3, 8),
-        }
-    }
-
-    pub fn middle(random: &mut Random, mask: u8) -> Plan {
-        Plan {
-            mask,
-            firms: random.between(8, 24),
-            classes: random.between(4, 14),
-            persons: random.between(6, 20),
-            folders: random.between(16, 48),
-            public: random.pick(PUBLIC),
-            roles: random.between(3, 10),
-            rights: WIDE_AND_NARROW,
-            steps: random.between(6, 12),
-        }
-    }
-
-    /// Many folders of few firms, and narrow roles.
-    pub fn narrow_roles(random: &mut Random, mask: u8) -> Plan {
-        Plan {
-            firms: 4,
-            classes: 4,
-            persons: 12,
-            folders: 20,
-            roles: random.between(1, 4),
-            rights: NARROW,
-            ..Plan::middle(random, mask)
-        }
-    }
-
-    /// Every number declared.
-    pub fn full(mask: u8) -> Plan {
-        Plan {
-            mask,
-            firms: 64,
-            classes: 32,
-            persons: 64,
-            folders: 128,
-            public: 30,
-            roles: 32,
-            rights: WIDE_AND_NARROW,
-            steps: 16,
-        }
-    }
-}
 
 /// A book that loads, with some bytes after the end record now and then.
 pub fn good_book(random: &mut Random, plan: &Plan) -> Vec<u8> {
@@ -113,12 +31,9 @@ pub fn good_records(random: &mut Random, plan: &Plan) -> Vec<Vec<u8>> {
         firm_keys.push(key);
         keyed.push((key, vec![2, *firm, random.pick(&classes)]));
     }
-    let levels = some_levels(random);
-    for person in random.some_below(64, plan.persons) {
-        let level = some_person_level(random, &levels);
-        let key = random.below(2000);
-        keyed.push((key, vec![3, person, level[0], level[1]]));
-    }
+    let row = random.pick(plan.row);
+    let levels = some_levels(random, row);
+    keyed.extend(some_persons(random, plan.persons, &levels));
     for folder in random.some_below(128, plan.folders) {
         let place = random.below(firms.len());
         let level = random.pick(&levels).to_le_bytes();
@@ -143,21 +58,35 @@ pub fn good_records(random: &mut Random, plan: &Plan) -> Vec<Vec<u8>> {
     records
 }
 
-/// Some levels of folders: a falling row of them, and two at random.
-fn some_levels(random: &mut Random) -> Vec<u16> {
+/// Some levels of folders: a falling row of them, and two at random beside the
+/// longest.
+fn some_levels(random: &mut Random, row: usize) -> Vec<u16> {
     let mut levels = Vec::new();
     let mut rank = 15;
     let mut compartments: u16 = 0x0fff;
-    for _ in 0..6 {
+    for _ in 0..row {
         levels.push(rank * 4096 + compartments);
         rank -= random.below(3) as u16;
         for _ in 0..random.below(4) {
             compartments &= !(1 << random.below(12));
         }
     }
-    levels.push(random.number() as u16);
-    levels.push(random.number() as u16);
+    if row == LONGEST_ROW {
+        levels.push(random.number() as u16);
+        levels.push(random.number() as u16);
+    }
     levels
+}
+
+/// The records of persons with their keys.
+fn some_persons(random: &mut Random, count: usize, levels: &[u16]) -> Vec<(usize, Vec<u8>)> {
+    let mut keyed = Vec::new();
+    for person in random.some_below(64, count) {
+        let level = some_person_level(random, levels);
+        let key = random.below(2000);
+        keyed.push((key, vec![3, person, level[0], level[1]]));
+    }
+    keyed
 }
 
 fn some_person_level(random: &mut Random, levels: &[u16]) -> [u8; 2] {
@@ -165,7 +94,7 @@ fn some_person_level(random: &mut Random, levels: &[u16]) -> [u8; 2] {
         0 => random.number() as u16,
         1 => 65535,
         2 => random.pick(levels),
-        _ => levels[random.below(3)],
+        _ => levels[random.below(levels.len().min(3))],
     };
     level.to_le_bytes()
 }

@@ -1,6 +1,6 @@
 //! Scenes of histories and answer buffers of wrong lengths, and long runs.
 
-use super::books::Plan;
+use super::plans::Plan;
 use super::{Generator, WHOLE};
 use crate::calls::answers_due;
 use crate::command::Command;
@@ -82,9 +82,14 @@ impl Generator {
         self.run(0, &[]);
     }
 
-    /// As many answers as the answer buffer holds, and one more.
+    /// As many answers as the answer buffer holds, and one more. With so few
+    /// levels every rule refuses a good part.
     pub fn long_runs(&mut self) {
-        self.begin(&Plan::full(15));
+        let plan = Plan {
+            row: &[2],
+            ..Plan::full(15)
+        };
+        self.begin(&plan);
         self.fill(170);
         let mut requests = self.some_list(ANSWER_BUFFER).concat();
         let mut longer = requests.clone();
@@ -92,7 +97,7 @@ impl Generator {
         self.run(65_535, &longer);
         self.run(ANSWER_BUFFER, &requests);
         self.standings_of_everyone();
-        requests.truncate(3000);
+        requests.truncate(1000);
         requests.push(255);
         self.run(ANSWER_BUFFER, &requests);
     }

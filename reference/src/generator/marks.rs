@@ -1,6 +1,6 @@
 //! Scenes of public folders: a rival's, and marks set in the tables.
 
-use super::books::Plan;
+use super::plans::Plan;
 use super::Generator;
 use crate::marked;
 use crate::request::Request;

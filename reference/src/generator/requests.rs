@@ -8,6 +8,9 @@ use crate::request::Request;
 use crate::rules::judge_request;
 use crate::tables::given;
 
+/// The kinds of requests, each as often as it comes up.
+const KINDS: &[u8] = &[16, 16, 16, 17, 17, 18, 18, 19, 19, 19];
+
 impl Generator {
     /// The set of requests in the player's history.
     pub fn history_now(&self) -> History {
@@ -48,26 +51,32 @@ impl Generator {
         self.mostly_of(&declared, 128)
     }
 
+    /// Create more often than another step, and now and then any byte.
     fn some_step(&mut self) -> u8 {
-        if self.random.chance(98) {
-            self.random.below(16) as u8
-        } else {
-            self.random.byte()
+        match self.random.below(100) {
+            0..=1 => self.random.byte(),
+            2..=19 => 0,
+            _ => self.random.below(16) as u8,
         }
     }
 
     pub fn some_request(&mut self) -> Request {
+        let kind = self.random.pick(KINDS);
+        self.request_of(kind)
+    }
+
+    fn request_of(&mut self, kind: u8) -> Request {
         let person = self.some_person();
-        match self.random.below(10) {
-            0..=2 => Request::Read {
+        match kind {
+            16 => Request::Read {
                 person,
                 folder: self.some_folder(),
             },
-            3..=4 => Request::Write {
+            17 => Request::Write {
                 person,
                 folder: self.some_folder(),
             },
-            5..=6 => Request::Start {
+            18 => Request::Start {
                 person,
                 other: self.some_person(),
             },
@@ -85,33 +94,44 @@ impl Generator {
         given(tables) && judge_request(tables, history, request) == GRANTED
     }
 
-    /// A request that would be granted and is not in the history yet, if a
-    /// few tries find one.
     pub fn likely_granted(&mut self, history: &History) -> Request {
-        let mut request = self.some_request();
+        let kind = self.random.pick(KINDS);
+        self.likely_granted_of(kind, history)
+    }
+
+    /// A request of this kind that would be granted and is not in the history
+    /// yet, if a few tries find one.
+    fn likely_granted_of(&mut self, kind: u8, history: &History) -> Request {
+        let mut request = self.request_of(kind);
         for _ in 0..16 {
             if self.would_grant(history, &request) && !history.contains(&request) {
                 break;
             }
-            request = self.some_request();
+            request = self.request_of(kind);
         }
         request
     }
 
-    /// Records of a list that begins at the player's history: new requests
-    /// that are mostly granted, repeats, and requests as they come.
     pub fn some_list(&mut self, count: usize) -> Vec<Vec<u8>> {
+        self.list_of(KINDS, count)
+    }
+
+    /// Records of a list of these kinds that begins at the player's history:
+    /// new requests that are mostly granted, repeats, and requests as they
+    /// come.
+    pub fn list_of(&mut self, kinds: &[u8], count: usize) -> Vec<Vec<u8>> {
         let mut history = self.history_now();
         let mut earlier: Vec<Request> = history.iter().copied().collect();
         let mut records = Vec::new();
         for _ in 0..count {
+            let kind = self.random.pick(kinds);
             let choice = self.random.below(100);
             let request = if choice < 12 && !earlier.is_empty() {
                 self.random.pick(&earlier)
             } else if choice < 65 {
-                self.likely_granted(&history)
+                self.likely_granted_of(kind, &history)
             } else {
-                self.some_request()
+                self.request_of(kind)
             };
             if self.would_grant(&history, &request) {
                 history.insert(request);

@@ -1,6 +1,7 @@
 //! The scenes that make up a file of calls, and those of books and lists.
 
-use super::books::{bad_ends, good_records, joined, with_early_mark, Plan};
+use super::books::{bad_ends, good_records, joined, with_early_mark};
+use super::plans::Plan;
 use super::Generator;
 use crate::calls::answers_due;
 use crate::marked;
@@ -13,6 +14,7 @@ impl Generator {
         self.cut_and_changed_books(&marked::BOOK);
         self.cut_and_changed_books(&marked::PUBLIC_BOOK);
         self.lists_from_blank();
+        self.steps_that_alter();
         self.every_kind();
         self.other_histories_and_tables();
         for _ in 0..2 {
@@ -32,7 +34,7 @@ impl Generator {
             let plan = Plan::middle(&mut self.random, mask);
             self.list_scene(&plan, 60, 6);
         }
-        for _ in 0..16 {
+        for _ in 0..12 {
             let plan = Plan::middle(&mut self.random, 15);
             self.list_scene(&plan, 150, 10);
         }
@@ -42,6 +44,16 @@ impl Generator {
         for mask in [4, 4, 12, 12, 5, 6] {
             let plan = Plan::narrow_roles(&mut self.random, mask);
             self.list_scene(&plan, 50, 5);
+        }
+    }
+
+    /// Persons lowered by steps alone, in lists and in other histories.
+    fn steps_that_alter(&mut self) {
+        self.lists_without_reads();
+        self.everybody_steps();
+        for mask in [0, 2, 3, 5, 10, 15] {
+            let plan = Plan::many_levels(&mut self.random, mask);
+            self.foreign_steps(&plan);
         }
     }
 
@@ -131,6 +143,7 @@ impl Generator {
         self.put(&[19, 1, 2, 2]);
         self.judge(&[19, 1, 2, 2]);
         self.public_folder();
+        self.altering_step();
     }
 
     /// P7 and P8, and the order of levels that have no order.
@@ -205,7 +218,7 @@ impl Generator {
         ] {
             self.load(book);
         }
-        for step in 0..8 {
+        for step in 0..7 {
             let mask = self.random.below(16) as u8;
             let plan = Plan::small(&mut self.random, mask);
             let mut records = good_records(&mut self.random, &plan);
@@ -214,7 +227,7 @@ impl Generator {
                 book.push(0);
                 self.load(&book);
             }
-            let kept = (1 + step * records.len() / 7).min(records.len());
+            let kept = (1 + step * records.len() / 6).min(records.len());
             records.truncate(kept);
             for end in bad_ends(&mut self.random, &records) {
                 let mut book = joined(&records);

@@ -6,8 +6,8 @@ use Rattle.judging.proofs.is_unasked.Tie as tie
 use Rattle.judging.proofs.is_unasked.Reads as reads
 use Rattle.judging.proofs.is_unasked.Lts as lts
 use Rattle.judging.proofs.are_declared.Reads as are-declared-reads
-use Rattle.judging.proofs.asks_level.Reads as asks-level-reads
-use Rattle.judging.proofs.asks_past.Reads as asks-past-reads
+use Rattle.judging.proofs.passing.asks_level.Reads as asks-level-reads
+use Rattle.judging.proofs.passing.asks_past.Reads as asks-past-reads
 
 asks-past-requires : tie.Need-asks-past-requires
 asks-past-requires c κs = search needs

@@ -2,10 +2,6 @@
 use borrow.Author.Needs.{needs}
 use Rattle.judging.proofs.judge_level.Statement.{statement}
 use Rattle.judging.proofs.judge_level.Tie as tie
-use Rattle.judging.proofs.judge_level.Reads as reads
-use Rattle.judging.proofs.judge_level.Lts as lts
-use Rattle.level.proofs.Level.compare.Reads as compare-reads
-use Rattle.past.proofs.current_level.Reads as current-level-reads
 
 current-level-requires : tie.Need-current-level-requires
 current-level-requires c κs = search needs

@@ -1,150 +1,85 @@
--- `judge_past` is the first of wall, low-water and roles that refuses, by the masks and the level of what the person did.
-use mathlib.Core.Path.{sym, _∙_}
-use mathlib.Core.Logic.{inl, inr, ⊎-elim}
+-- `judge_past` is the first of wall, low-water and roles that refuses, over what the person did.
+use mathlib.Core.Path.{refl, sym, _∙_}
+use denote.Ref.{now}
 use borrow.Author.Tests.{not-true, not-false}
-use Rattle.policy.proofs.Requests.{folder-below}
-use Rattle.judging.proofs.JudgingLaws.{level-test, passes, refuses, number-wall, number-level, number-roles, number-none}
 use borrow.Author.Needs.{needs}
+use Rattle.policy.specs.Request.{setOf}
+use Rattle.policy.proofs.Requests.{person-below}
+use Rattle.packed.specs.Packed.{tablesOf}
+use Rattle.judging.proofs.JudgingLaws.{access-by}
 use Rattle.judging.proofs.judge_past.Statement.{statement}
 use Rattle.judging.proofs.judge_past.Tie as tie
-use Rattle.judging.proofs.judge_past.Reads as reads
-use Rattle.judging.proofs.judge_past.Lts as lts
-use Rattle.judging.proofs.level_permits.Reads as level-permits-reads
-use Rattle.packed.proofs.folder.Reads as folder-reads
-use Rattle.packed.proofs.in_force.Reads as in-force-reads
-use Rattle.rules.proofs.roles_permit.Reads as roles-permit-reads
-use Rattle.rules.proofs.wall_permits.Reads as wall-permits-reads
 
-in-force-requires : tie.Need-in-force-requires
-in-force-requires c κs = search needs
+stepped-by-requires : tie.Need-stepped-by-requires
+stepped-by-requires c κs =
+    let start = c .before in
+    (start .pre .0 .size, person-below _ _ (start .pre .1))
 
-wall-permits-requires : tie.Need-wall-permits-requires
-wall-permits-requires c κs = search needs
+past-of-requires : tie.Need-past-of-requires
+past-of-requires c κs =
+    let pre = c .before .before .pre in
+    (pre .0 .size, pre .0 .tables, pre .1, c .stepped-by .ensures)
+
+wall-passes-requires : tie.Need-wall-passes-requires
+wall-passes-requires c κs = search needs
 
 returns : tie.Need-returns
 returns c =
-    let first-test = c .before .before .before .in-force in
-    let if1 = c .before .before .if1 in
-    let wall-permits = c .before .wall-permits in
-    sym
-    (number-wall _ _ _ _
-    (refuses _ _ (sym (first-test .ensures) ∙ if1 .taken) (sym (wall-permits .ensures) ∙ not-true _ (c .if2 .taken))))
+    let start = c .before .before .before .before .before in
+    let args = start .args in
+    let wall = c .before in
+    access-by (tablesOf (now (args .t))) (setOf (now (args .h))) (start .pre .0 .tables) (args .s) (args .o) (args .right)
+    (args .modifies) (start .pre .2) (wall .before .past-of .ensures) (sym (not-true _ (c .if1 .taken)) ∙ wall .wall-passes .ensures) refl refl
 
-in-force-requires-2 : tie.Need-in-force-requires-2
-in-force-requires-2 c κs = search needs
-
-folder-requires : tie.Need-folder-requires
-folder-requires c κs = folder-below _ _ (c .before .before .before .before .pre .1)
-
-level-permits-requires : tie.Need-level-permits-requires
-level-permits-requires c κs = search needs
+level-passes-requires : tie.Need-level-passes-requires
+level-passes-requires c κs =
+    let start = c .before .before .before .before .before in
+    (start .pre .0, start .pre .1, start .pre .2, c .before .before .before .stepped-by .ensures)
 
 returns-2 : tie.Need-returns-2
 returns-2 c =
-    let args = c .before .before .before .before .before .before .before .before .before .args in
-    let own = args .did .level .0 in
-    let first-test = c .before .before .before .before .before .before .before .before .in-force in
-    let if1 = c .before .before .before .before .before .before .before .if1 in
-    let second-test = c .before .before .before .before .before .before .in-force2 in
-    let if3 = c .before .before .before .before .before .if3 in
-    let level-permits = c .before .level-permits in
-    let folder = c .before .before .before .before .folder in
-    sym
-    (number-level _ _ _ _ (passes _ _
-    (⊎-elim (λ w. inl (sym (first-test .ensures) ∙ w .0 .taken, sym (w .1 .ensures) ∙ not-false _ (w .2 .left)))
-    (λ w. inr (sym (first-test .ensures) ∙ w .left)) (if1 .came)))
-    (refuses _ _ (sym (second-test .ensures) ∙ if3 .taken)
-    (level-test (args .write) own (folder .ensures) (level-permits .ensures) ∙ not-true _ (c .if4 .taken))))
+    let start = c .before .before .before .before .before .before .before in
+    let args = start .args in
+    let wall = c .before .before .before in
+    access-by (tablesOf (now (args .t))) (setOf (now (args .h))) (start .pre .0 .tables) (args .s) (args .o) (args .right)
+    (args .modifies) (start .pre .2) (wall .before .past-of .ensures) (sym (not-false _ (c .before .before .if1 .left)) ∙ wall .wall-passes .ensures)
+    (sym (not-true _ (c .if2 .taken)) ∙ c .before .level-passes .ensures) refl
 
-in-force-requires-3 : tie.Need-in-force-requires-3
-in-force-requires-3 c κs = search needs
-
-roles-permit-requires : tie.Need-roles-permit-requires
-roles-permit-requires c κs = search needs
+roles-pass-requires : tie.Need-roles-pass-requires
+roles-pass-requires c κs = search needs
 
 returns-3 : tie.Need-returns-3
 returns-3 c =
-    let args = c .before .before .before .before .before .before .before .before .args in
-    let own = args .did .level .0 in
-    let first-test = c .before .before .before .before .before .before .before .in-force in
-    let if1 = c .before .before .before .before .before .before .if1 in
-    let second-test = c .before .before .before .before .before .in-force2 in
-    let if3 = c .before .before .before .before .if3 in
-    let third-test = c .before .before .before .in-force3 in
-    let if5 = c .before .before .if5 in
-    let roles-permit = c .before .roles-permit in
-    sym
-    (number-roles _ _ _ _ (passes _ _
-    (⊎-elim (λ w. inl (sym (first-test .ensures) ∙ w .0 .taken, sym (w .1 .ensures) ∙ not-false _ (w .2 .left)))
-    (λ w. inr (sym (first-test .ensures) ∙ w .left)) (if1 .came)))
-    (passes _ _
-    (⊎-elim
-    (λ w. inl (
-      sym (second-test .ensures) ∙ w .0 .taken,
-      level-test (args .write) own (w .1 .ensures) (w .4 .ensures) ∙ not-false _ (w .5 .left),
-    ))
-    (λ w. inr (sym (second-test .ensures) ∙ w .left)) (if3 .came)))
-    (refuses _ _ (sym (third-test .ensures) ∙ if5 .taken) (sym (roles-permit .ensures) ∙ not-true _ (c .if6 .taken))))
+    let start = c .before .before .before .before .before .before .before .before .before in
+    let args = start .args in
+    let level = c .before .before .before in
+    let wall = level .before .before in
+    access-by (tablesOf (now (args .t))) (setOf (now (args .h))) (start .pre .0 .tables) (args .s) (args .o) (args .right)
+    (args .modifies) (start .pre .2) (wall .before .past-of .ensures) (sym (not-false _ (level .before .if1 .left)) ∙ wall .wall-passes .ensures)
+    (sym (not-false _ (c .before .before .if2 .left)) ∙ level .level-passes .ensures)
+    (sym (not-true _ (c .if3 .taken)) ∙ c .before .roles-pass .ensures)
 
 returns-4 : tie.Need-returns-4
 returns-4 c =
-    let args = c .before .before .before .before .before .before .before .before .args in
-    let own = args .did .level .0 in
-    let first-test = c .before .before .before .before .before .before .before .in-force in
-    let if1 = c .before .before .before .before .before .before .if1 in
-    let second-test = c .before .before .before .before .before .in-force2 in
-    let if3 = c .before .before .before .before .if3 in
-    let third-test = c .before .before .before .in-force3 in
-    let if5 = c .before .before .if5 in
-    let roles-permit = c .before .roles-permit in
-    sym
-    (number-none _ _ _ _ (passes _ _
-    (⊎-elim (λ w. inl (sym (first-test .ensures) ∙ w .0 .taken, sym (w .1 .ensures) ∙ not-false _ (w .2 .left)))
-    (λ w. inr (sym (first-test .ensures) ∙ w .left)) (if1 .came)))
-    (passes _ _
-    (⊎-elim
-    (λ w. inl (
-      sym (second-test .ensures) ∙ w .0 .taken,
-      level-test (args .write) own (w .1 .ensures) (w .4 .ensures) ∙ not-false _ (w .5 .left),
-    ))
-    (λ w. inr (sym (second-test .ensures) ∙ w .left)) (if3 .came)))
-    (passes _ _ (inl ((sym (third-test .ensures) ∙ if5 .taken), sym (roles-permit .ensures) ∙ not-false _ (c .if6 .left)))))
-
-returns-5 : tie.Need-returns-5
-returns-5 c =
-    let args = c .before .before .before .before .before .before .args in
-    let own = args .did .level .0 in
-    let first-test = c .before .before .before .before .before .in-force in
-    let if1 = c .before .before .before .before .if1 in
-    let second-test = c .before .before .before .in-force2 in
-    let if3 = c .before .before .if3 in
-    let third-test = c .before .in-force3 in
-    sym
-    (number-none _ _ _ _ (passes _ _
-    (⊎-elim (λ w. inl (sym (first-test .ensures) ∙ w .0 .taken, sym (w .1 .ensures) ∙ not-false _ (w .2 .left)))
-    (λ w. inr (sym (first-test .ensures) ∙ w .left)) (if1 .came)))
-    (passes _ _
-    (⊎-elim
-    (λ w. inl (
-      sym (second-test .ensures) ∙ w .0 .taken,
-      level-test (args .write) own (w .1 .ensures) (w .4 .ensures) ∙ not-false _ (w .5 .left),
-    ))
-    (λ w. inr (sym (second-test .ensures) ∙ w .left)) (if3 .came)))
-    (passes _ _ (inr (sym (third-test .ensures) ∙ c .if5 .left))))
+    let start = c .before .before .before .before .before .before .before .before .before in
+    let args = start .args in
+    let level = c .before .before .before in
+    let wall = level .before .before in
+    access-by (tablesOf (now (args .t))) (setOf (now (args .h))) (start .pre .0 .tables) (args .s) (args .o) (args .right)
+    (args .modifies) (start .pre .2) (wall .before .past-of .ensures) (sym (not-false _ (level .before .if1 .left)) ∙ wall .wall-passes .ensures)
+    (sym (not-false _ (c .before .before .if2 .left)) ∙ level .level-passes .ensures)
+    (sym (not-false _ (c .if3 .left)) ∙ c .before .roles-pass .ensures)
 
 pub judge-past-spec : {M : Type 1} → statement M
 judge-past-spec =
     tie.close
     (tie.spec
-    in-force-requires
-    wall-permits-requires
+    stepped-by-requires
+    past-of-requires
+    wall-passes-requires
     returns
-    in-force-requires-2
-    folder-requires
-    level-permits-requires
+    level-passes-requires
     returns-2
-    in-force-requires-3
-    roles-permit-requires
+    roles-pass-requires
     returns-3
-    returns-4
-    returns-5)
+    returns-4)

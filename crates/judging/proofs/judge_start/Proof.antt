@@ -8,6 +8,7 @@ use Rattle.policy.specs.Tables.{personDeclared, inForce, wallRule}
 use Rattle.policy.specs.Request.{start}
 use Rattle.policy.specs.Rules.{declared}
 use Rattle.packed.specs.Packed.{tablesOf}
+use Rattle.judging.specs.Judging.{startNumber}
 use Rattle.judging.proofs.JudgingLaws.{
   whole-part,
   implies-true,
@@ -16,7 +17,6 @@ use Rattle.judging.proofs.JudgingLaws.{
   number-none,
   number-alone,
   not-declared,
-  start-past,
   start-number,
 }
 use borrow.Author.Needs.{needs}
@@ -28,8 +28,7 @@ use Rattle.judging.proofs.are_persons.Reads as are-persons-reads
 use Rattle.judging.proofs.judge_level.Reads as judge-level-reads
 use Rattle.judging.proofs.judge_start_past.Reads as judge-start-past-reads
 use Rattle.packed.proofs.in_force.Reads as in-force-reads
-use Rattle.past.proofs.current_level.Reads as current-level-reads
-use Rattle.past.proofs.past_of.Reads as past-of-reads
+use Rattle.past.proofs.levels.current_level.Reads as current-level-reads
 
 are-persons-requires : tie.Need-are-persons-requires
 are-persons-requires c κs = search needs
@@ -50,54 +49,33 @@ part-judge-start-past-start c = search needs
 part-judge-start-past-end : tie.Need-part-judge-start-past-end
 part-judge-start-past-end c = search needs
 
-sub-past-of : tie.Need-sub-past-of
-sub-past-of c = search needs
+judge-start-past-requires : tie.Need-judge-start-past-requires
+judge-start-past-requires c κs =
+    let start = c .before .before .before .before .before .before in
+    let t = tablesOf (now (start .args .t)) in
+    let are-persons = c .before .before .before .before .are-persons in
+    let known =
+    known-both (personDeclared t (start .args .s)) (personDeclared t (start .args .u))
+    (are-persons .result) (are-persons .ensures) (c .before .before .before .if1 .left) in
+    rw whole-part (start .pre, known .0, known .1)
 
-part-past-of-start : tie.Need-part-past-of-start
-part-past-of-start c = search needs
-
-part-past-of-end : tie.Need-part-past-of-end
-part-past-of-end c = search needs
-
-past-of-requires : tie.Need-past-of-requires
-past-of-requires c κs =
+returns-2 : tie.Need-returns-2
+unfolding declared
+returns-2 c =
     let start = c .before .before .before .before .before .before .before in
     let t = tablesOf (now (start .args .t)) in
     let are-persons = c .before .before .before .before .before .are-persons in
     let known =
     known-both (personDeclared t (start .args .s)) (personDeclared t (start .args .u))
     (are-persons .result) (are-persons .ensures) (c .before .before .before .before .if1 .left) in
-    rw whole-part (start .pre .size, start .pre .tables, known .0)
-
-judge-start-past-requires : tie.Need-judge-start-past-requires
-judge-start-past-requires c κs =
-    let start = c .before .before .before .before .before .before .before .before in
-    let t = tablesOf (now (start .args .t)) in
-    let are-persons = c .before .before .before .before .before .before .are-persons in
-    let known =
-    known-both (personDeclared t (start .args .s)) (personDeclared t (start .args .u))
-    (are-persons .result) (are-persons .ensures) (c .before .before .before .before .before .if1 .left) in
-    let roles-on = sym (c .before .before .before .before .in-force .ensures) ∙ c .before .before .before .if2 .taken in
-    rw whole-part (start .pre, known .1, roles-on)
-
-returns-2 : tie.Need-returns-2
-unfolding declared
-returns-2 c =
-    let start = c .before .before .before .before .before .before .before .before .before in
-    let t = tablesOf (now (start .args .t)) in
-    let are-persons = c .before .before .before .before .before .before .before .are-persons in
-    let known =
-    known-both (personDeclared t (start .args .s)) (personDeclared t (start .args .u))
-    (are-persons .result) (are-persons .ensures) (c .before .before .before .before .before .before .if1 .left) in
-    let past = rw whole-part at (c .before .past-of .ensures) in
-    rw whole-part at (c .judge-start-past .ensures) ∙ start-past _ _ (start .pre .tables) _ _ _ past
+    rw whole-part at (c .judge-start-past .ensures)
     ∙ sym (start-number _ _ (start .pre .tables) _ _ (and-both _ _ (known .0) (known .1)))
 
 in-force-requires-2 : tie.Need-in-force-requires-2
 in-force-requires-2 c κs = search needs
 
 returns-3 : tie.Need-returns-3
-unfolding declared
+unfolding declared startNumber
 returns-3 c =
     let start = c .before .before .before .before .before .before .before in
     let t = tablesOf (now (start .args .t)) in
@@ -137,7 +115,7 @@ current-level-requires c κs =
     let known =
     known-both (personDeclared t (start .args .s)) (personDeclared t (start .args .u))
     (are-persons .result) (are-persons .ensures) (c .before .before .before .before .before .before .if1 .left) in
-    rw whole-part (start .pre .size, start .pre .tables, known .1)
+    rw whole-part (start .pre .size, known .1)
 
 judge-level-requires : tie.Need-judge-level-requires
 judge-level-requires c κs =
@@ -150,7 +128,7 @@ judge-level-requires c κs =
     rw whole-part (start .pre, known .0)
 
 returns-4 : tie.Need-returns-4
-unfolding declared
+unfolding declared startNumber
 returns-4 c =
     let start = c .before .before .before .before .before .before .before .before .before .before .before in
     let t = tablesOf (now (start .args .t)) in
@@ -177,10 +155,6 @@ judge-start-spec =
     sub-judge-start-past
     part-judge-start-past-start
     part-judge-start-past-end
-    sub-past-of
-    part-past-of-start
-    part-past-of-end
-    past-of-requires
     judge-start-past-requires
     returns-2
     in-force-requires-2

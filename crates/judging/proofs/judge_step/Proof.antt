@@ -1,4 +1,5 @@
--- `judge_step` is 13 for undeclared parties or a step above 15, then the access with the step's right, then the pipeline.
+-- `judge_step` is 13 for undeclared parties or a step above 15, then what the rules answer to an access that uses the step's right
+-- and modifies the folder, then the pipeline.
 use native.Mathlib.Omega.{arith}
 use denote.Ref.{now}
 use mathlib.Core.Path.{_≡_, sym, _∙_}
@@ -24,7 +25,7 @@ use Rattle.judging.proofs.judge_step.Tie as tie
 use Rattle.judging.proofs.judge_step.Reads as reads
 use Rattle.judging.proofs.judge_step.Lts as lts
 use Rattle.judging.proofs.are_declared.Reads as are-declared-reads
-use Rattle.judging.proofs.judge_step_access.Reads as judge-step-access-reads
+use Rattle.judging.proofs.judge_rules.Reads as judge-rules-reads
 use Rattle.packed.proofs.in_force.Reads as in-force-reads
 use Rattle.pipeline.proofs.permits.Reads as permits-reads
 
@@ -40,24 +41,27 @@ returns-2 c =
     (not-declared _ _ (step _ _ _)
     (undeclared-step _ _ _ _ (sym (c .before .are-declared .ensures) ∙ not-true _ (c .if2 .taken))))
 
-sub-judge-step-access : tie.Need-sub-judge-step-access
-sub-judge-step-access c = search needs
+sub-judge-rules : tie.Need-sub-judge-rules
+sub-judge-rules c = search needs
 
-part-judge-step-access-start : tie.Need-part-judge-step-access-start
-part-judge-step-access-start c = search needs
+part-judge-rules-start : tie.Need-part-judge-rules-start
+part-judge-rules-start c = search needs
 
-part-judge-step-access-end : tie.Need-part-judge-step-access-end
-part-judge-step-access-end c = search needs
+part-judge-rules-end : tie.Need-part-judge-rules-end
+part-judge-rules-end c = search needs
 
-judge-step-access-requires : tie.Need-judge-step-access-requires
-judge-step-access-requires c κs =
+add-judge-rules : tie.Need-add-judge-rules
+add-judge-rules c = search needs
+
+judge-rules-requires : tie.Need-judge-rules-requires
+judge-rules-requires c κs =
     let start = c .before .before .before .before .before in
     let t = tablesOf (now (start .args .t)) in
     let are-declared = c .before .before .are-declared in
     let known =
     known-both (personDeclared t (start .args .s)) (folderDeclared t (start .args .o))
     (are-declared .result) (are-declared .ensures) (c .before .if2 .left) in
-    rw whole-part (start .pre, known .0, known .1, omega arith)
+    rw whole-part (start .pre, known .0, known .1)
 
 returns-3 : tie.Need-returns-3
 returns-3 c =
@@ -68,9 +72,9 @@ returns-3 c =
     known-both (personDeclared t (start .args .s)) (folderDeclared t (start .args .o))
     (are-declared .result) (are-declared .ensures) (c .before .before .before .if2 .left) in
     let d = step-declared t (start .args .s) (start .args .p) (start .args .o) (known .0) (omega arith) (known .1) in
-    let access = rw whole-part at (c .before .judge-step-access .ensures) in
+    let access = rw whole-part at (c .before .judge-rules .ensures) in
     sym
-    (before-pipeline _ _ _ _ _ (c .before .judge-step-access .result) d
+    (before-pipeline _ _ _ _ _ (c .before .judge-rules .result) d
     (access ∙ step-number t (setOf (now (start .args .h))) (start .pre .tables) (start .args .s) (start .args .p) (start .args .o) d)
     (c .if3 .taken))
 
@@ -86,7 +90,7 @@ returns-4 c =
     known-both (personDeclared t (start .args .s)) (folderDeclared t (start .args .o))
     (are-declared .result) (are-declared .ensures) (c .before .before .before .before .before .if2 .left) in
     let d = step-declared t (start .args .s) (start .args .p) (start .args .o) (known .0) (omega arith) (known .1) in
-    let access = rw whole-part at (c .before .before .before .judge-step-access .ensures) in
+    let access = rw whole-part at (c .before .before .before .judge-rules .ensures) in
     let off : inForce t pipelineRule ≡ false = sym (c .before .in-force .ensures) ∙ not-true _ (c .if4 .taken) in
     sym
     (then-pipeline t (setOf (now (start .args .h))) _ _ _ d
@@ -122,7 +126,7 @@ returns-5 c =
     known-both (personDeclared t (start .args .s)) (folderDeclared t (start .args .o))
     (are-declared .result) (are-declared .ensures) (c .before .before .before .before .before .before .before .before .if2 .left) in
     let d = step-declared t (start .args .s) (start .args .p) (start .args .o) (known .0) (omega arith) (known .1) in
-    let access = rw whole-part at (c .before .before .before .before .before .before .judge-step-access .ensures) in
+    let access = rw whole-part at (c .before .before .before .before .before .before .judge-rules .ensures) in
     let permits = rw whole-part at (c .before .permits .ensures) in
     let on : inForce t pipelineRule ≡ true =
     sym (c .before .before .before .before .in-force .ensures) ∙ not-false _ (c .before .before .before .if4 .left) in
@@ -141,7 +145,7 @@ returns-6 c =
     known-both (personDeclared t (start .args .s)) (folderDeclared t (start .args .o))
     (are-declared .result) (are-declared .ensures) (c .before .before .before .before .before .before .before .before .if2 .left) in
     let d = step-declared t (start .args .s) (start .args .p) (start .args .o) (known .0) (omega arith) (known .1) in
-    let access = rw whole-part at (c .before .before .before .before .before .before .judge-step-access .ensures) in
+    let access = rw whole-part at (c .before .before .before .before .before .before .judge-rules .ensures) in
     let permits = rw whole-part at (c .before .permits .ensures) in
     let on : inForce t pipelineRule ≡ true =
     sym (c .before .before .before .before .in-force .ensures) ∙ not-false _ (c .before .before .before .if4 .left) in
@@ -158,10 +162,11 @@ judge-step-spec =
     returns
     are-declared-requires
     returns-2
-    sub-judge-step-access
-    part-judge-step-access-start
-    part-judge-step-access-end
-    judge-step-access-requires
+    sub-judge-rules
+    part-judge-rules-start
+    part-judge-rules-end
+    add-judge-rules
+    judge-rules-requires
     returns-3
     in-force-requires
     returns-4

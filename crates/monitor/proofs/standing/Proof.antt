@@ -1,9 +1,12 @@
--- `standing` is the definition's: what `checked` refuses, then 13, then the level and the ones of the two masks that `past` gathers.
+-- `standing` is the definition's: what `checked` refuses, then 13, then the level and the ones of the two sets of what the
+-- person did.
 use denote.Ref.{now}
 use mathlib.Core.Path.{sym, ap, _∙_}
 use borrow.Author.Tests.{not-true, not-false}
 use Rattle.policy.specs.Tables.{personDeclared}
 use Rattle.policy.specs.Request.{setOf}
+use Rattle.policy.specs.Rules.{currentLevel}
+use Rattle.policy.proofs.Requests.{person-below}
 use Rattle.past.specs.Past.{pastOf}
 use Rattle.monitor.proofs.CallLaws.{passed-ready, standing-refused, standing-undeclared, standing-is}
 use borrow.Author.Needs.{needs}
@@ -17,7 +20,9 @@ use Rattle.monitor.proofs.no_standing.Reads as no-standing-reads
 use Rattle.bits.proofs.wide.Reads as wide-reads
 use Rattle.packed.proofs.is_person.Reads as is-person-reads
 use Rattle.packing.proofs.pack.Reads as pack-reads
+use Rattle.past.proofs.levels.level_with.Reads as level-with-reads
 use Rattle.past.proofs.past_of.Reads as past-of-reads
+use Rattle.past.proofs.steps.stepped_by.Reads as stepped-by-reads
 
 checked-requires : tie.Need-checked-requires
 checked-requires c κs = search needs
@@ -55,14 +60,32 @@ returns-2 c =
     ∙ standing-undeclared _ _ _ (sym (call-checked .ensures) ∙ if1 .left)
     (ap (personDeclared (start .args .t)) (sym (call-wide .ensures .0)) ∙ sym is-person ∙ not-true _ (if2 .taken))
 
+stepped-by-requires : tie.Need-stepped-by-requires
+stepped-by-requires c κs =
+    let call-checked = c .before .before .before .before .before .before .checked in
+    let ready = passed-ready _ _ (sym (call-checked .ensures) ∙ c .before .before .before .before .before .if1 .left) in
+    (ready .size, person-below _ _ (sym (c .before .is-person .ensures) ∙ not-false _ (c .if2 .left)))
+
 past-of-requires : tie.Need-past-of-requires
 past-of-requires c κs =
-    let call-checked = c .before .before .before .before .before .before .before .checked in
-    let if1 = c .before .before .before .before .before .before .if1 in
-    let ready = passed-ready _ _ (sym (call-checked .ensures) ∙ if1 .left) in
-    let packed = c .before .before .before .before .before .pack .ensures in
-    let is-person = c .before .before .is-person .ensures in
-    (ready .size, rw packed (ready .tables), sym is-person ∙ not-false _ (c .before .if2 .left))
+    let tested = c .before .before in
+    let packs = tested .before .before .before .before in
+    let ready = passed-ready _ _ (sym (packs .before .before .checked .ensures) ∙ packs .before .if1 .left) in (
+      ready .size,
+      rw (packs .pack .ensures) (ready .tables),
+      sym (tested .before .is-person .ensures) ∙ not-false _ (tested .if2 .left),
+      c .before .stepped-by .ensures,
+    )
+
+level-with-requires : tie.Need-level-with-requires
+level-with-requires c κs =
+    let tested = c .before .before .before .before in
+    let packs = tested .before .before .before .before in
+    let ready = passed-ready _ _ (sym (packs .before .before .checked .ensures) ∙ packs .before .if1 .left) in (
+      ready .size,
+      sym (tested .before .is-person .ensures) ∙ not-false _ (tested .if2 .left),
+      c .before .before .before .stepped-by .ensures,
+    )
 
 count64-requires : tie.Need-count64-requires
 count64-requires c κs = search needs
@@ -72,20 +95,21 @@ count64-requires-2 c κs = search needs
 
 returns-3 : tie.Need-returns-3
 returns-3 c =
-    let start = c .before .before .before .before .before .before .before .before .before .before .before .before .before in
-    let call-checked = c .before .before .before .before .before .before .before .before .before .before .before .checked in
-    let if1 = c .before .before .before .before .before .before .before .before .before .before .if1 in
-    let packed = c .before .before .before .before .before .before .before .before .before .pack .ensures in
-    let call-wide = c .before .before .before .before .before .before .before .before .wide in
-    let is-person = rw packed at (c .before .before .before .before .before .before .is-person .ensures) in
-    let if2 = c .before .before .before .before .before .if2 in
-    let past-of = c .before .before .before .past-of in
-    let call-count64 = c .before .count64 in
-    standing-is _ _ _ (sym (call-checked .ensures) ∙ if1 .left)
-    (ap (personDeclared (start .args .t)) (sym (call-wide .ensures .0)) ∙ sym is-person ∙ not-false _ (if2 .left))
-    (past-of .result) (call-count64 .result) (c .count642 .result)
-    (rw packed at (past-of .ensures) ∙ ap (pastOf (start .args .t) (setOf (now (start .args .h)))) (call-wide .ensures .0))
-    (call-count64 .ensures) (c .count642 .ensures)
+    let gathered = c .before .before .before .before in
+    let tested = gathered .before .before .before in
+    let packs = tested .before .before .before .before in
+    let start = packs .before .before .before .before in
+    let t = start .args .t in
+    let H = setOf (now (start .args .h)) in
+    let own = tested .before .before .before .wide .ensures .0 in
+    let packed = packs .pack .ensures in
+    let is-person = rw packed at (tested .before .is-person .ensures) in
+    standing-is _ _ _ (sym (packs .before .before .checked .ensures) ∙ packs .before .if1 .left)
+    (ap (personDeclared t) (sym own) ∙ sym is-person ∙ not-false _ (tested .if2 .left))
+    (gathered .past-of .result) (c .before .before .level-with .result .0) (c .before .count64 .result) (c .count642 .result)
+    (rw packed at (gathered .past-of .ensures) ∙ ap (pastOf t H) own)
+    (rw packed at (c .before .before .level-with .ensures) ∙ ap (currentLevel t H) own)
+    (c .before .count64 .ensures) (c .count642 .ensures)
 
 pub standing-spec : {M : Type 1} → statement M
 standing-spec =
@@ -99,7 +123,9 @@ standing-spec =
     is-person-requires
     no-standing-requires-2
     returns-2
+    stepped-by-requires
     past-of-requires
+    level-with-requires
     count64-requires
     count64-requires-2
     returns-3)

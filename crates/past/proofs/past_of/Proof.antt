@@ -12,40 +12,43 @@ use Rattle.policy.proofs.Requests.{person-below}
 use Rattle.packed.specs.Packed.{tablesOf}
 use Rattle.past.specs.declared.Past.{Past}
 use Rattle.past.specs.Past.{pastBelow, pastOf}
-use Rattle.past.specs.Turns.{withBitIf, started}
+use Rattle.past.specs.Turns.{withBitIf, steppedAt, started}
+use Rattle.past.proofs.FolderSets.{folders-low, folders-high}
 use Rattle.past.proofs.Gathered.{past-start, past-whole}
 use borrow.Author.Needs.{needs}
 use Rattle.past.proofs.past_of.Statement.{statement}
 use Rattle.past.proofs.past_of.Tie as tie
-use Rattle.past.proofs.past_of.Reads as reads
-use Rattle.past.proofs.past_of.Lts as lts
-use Rattle.packed.proofs.person.Reads as person-reads
-use Rattle.past.proofs.has_started.Reads as has-started-reads
-use Rattle.past.proofs.past_over.Reads as past-over-reads
-use Rattle.bits.proofs.with_bit64_if.Reads as with-bit64-if-reads
 
 -- the answer, of what was gathered on all folders
 answer : (t : Tables) (h : List ℕ) (s : ℕ) → personDeclared t s ≡ true → (gathered : Past) (rights : ℕ) (starts : Bool)
     → gathered ≡ pastBelow t (setOf h) s 128 → starts ≡ started t h s → rights ≡ withBitIf starts (gathered .rights) 32
-    → record { level = gathered .level; rights = rights; firms = gathered .firms; counted = gathered .counted } ≡ pastOf t (setOf h) s
+    → record { rights = rights; firms = gathered .firms; counted = gathered .counted } ≡ pastOf t (setOf h) s
 answer t h s person gathered rights starts e b r = rw (r, b, e) (past-whole t h s person)
-
-person-requires : tie.Need-person-requires
-person-requires c κs = person-below _ _ (c .before .pre .2)
 
 past-over-requires : tie.Need-past-over-requires
 past-over-requires c κs =
-    let start = c .before .before .before in
-    let pre = start .pre in
-    let none = past-start (tablesOf (now (start .args .t))) (setOf (now (start .args .h))) (start .args .s) in
-    (pre .0, pre .1, pre .2, refl, omega arith, rw (c .before .person .ensures) none)
+    let start = c .before in
+    let args = start .args in
+    let pre = start .pre in (
+      pre .0,
+      pre .1,
+      pre .2,
+      refl,
+      omega arith,
+      folders-low (steppedAt (args .h .now) (args .s)) (pre .3),
+      past-start (tablesOf (now (args .t))) (setOf (now (args .h))) (args .s),
+    )
 
 past-over-requires-2 : tie.Need-past-over-requires-2
-past-over-requires-2 c κs = search needs
+past-over-requires-2 c κs =
+    let start = c .before .before in
+    let args = start .args in
+    let pre = start .pre in
+    (pre .0, pre .1, pre .2, refl, omega arith, folders-high (steppedAt (args .h .now) (args .s)) (pre .3), c .past-over .ensures)
 
 has-started-requires : tie.Need-has-started-requires
 has-started-requires c κs =
-    let start = c .before .before .before .before .before .before in
+    let start = c .before .before .before in
     (start .pre .0, person-below _ _ (start .pre .2))
 
 with-bit64-if-requires : tie.Need-with-bit64-if-requires
@@ -53,9 +56,9 @@ with-bit64-if-requires c κs = search needs
 
 returns : tie.Need-returns
 returns c =
-    let start = c .before .before .before .before .before .before .before .before in
+    let start = c .before .before .before .before .before in
     let args = start .args in
-    let folders = c .before .before .before .past-over2 in
+    let folders = c .before .before .past-over2 in
     let starts = c .before .has-started in
     answer (tablesOf (now (args .t))) (now (args .h)) (args .s) (start .pre .2) (folders .result) (c .with-bit64-if .result)
     (starts .result) (folders .ensures) (starts .ensures) (c .with-bit64-if .ensures)
@@ -64,7 +67,6 @@ pub past-of-spec : {M : Type 1} → statement M
 past-of-spec =
     tie.close
     (tie.spec
-    person-requires
     past-over-requires
     past-over-requires-2
     has-started-requires

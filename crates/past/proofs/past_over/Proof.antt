@@ -1,14 +1,19 @@
 -- `past::past_over` goes over 64 folders: before each turn it holds what the person did on the folders below the one reached, whose read
--- and write are bits of the two words.
-use Prim.Native.Nat.{_+_, _-_, _≤_, _<_}
+-- and write are bits of the two words, and whose steps are a bit of the set of the folders stepped on.
+use Prim.Native.Nat.{ℕ, _+_, _-_, _%_, _≤_, _<_}
 use native.Mathlib.Omega.{arith}
-use mathlib.Core.Path.{_≡_}
+use mathlib.Core.Path.{_≡_, _∙_}
+use mathlib.Core.Bool.{Bool}
+use mathlib.Core.List.{List}
+use Rattle.bits.specs.Bits.{bit, maskBelow}
+use Rattle.bits.proofs.Masks.{bit-mask-below}
 use denote.Ref.{now}
 use borrow.Author.Needs.{needs}
 use Rattle.policy.specs.Request.{setOf, index}
 use Rattle.policy.proofs.Requests.{person-below}
 use Rattle.packed.specs.Packed.{tablesOf}
 use Rattle.past.specs.Past.{pastBelow}
+use Rattle.past.specs.Turns.{readAt, writtenAt, steppedAt}
 use Rattle.past.proofs.Recorded.{entry-below}
 use Rattle.past.proofs.LevelLaws.{word-place}
 use Rattle.past.proofs.Gathered.{past-turn}
@@ -22,10 +27,17 @@ use Rattle.packed.proofs.folder.Reads as folder-reads
 use Rattle.past.proofs.past_after.Reads as past-after-reads
 
 abbrev Inv-loop : tie.InvT-loop
-Inv-loop t h s first read wrote past₀ i₀ past i = (i ≤ 64) × (past ≡ pastBelow (tablesOf t) (setOf h) s (first + i))
+Inv-loop t h s first stepped read wrote past₀ i₀ past i = (i ≤ 64) × (past ≡ pastBelow (tablesOf t) (setOf h) s (first + i))
 
 abbrev μ-loop : tie.MeasureT-loop
-μ-loop t h s first read wrote past₀ i₀ past i = 64 - i
+μ-loop t h s first stepped read wrote past₀ i₀ past i = 64 - i
+
+-- a folder's bit in the set of the folders stepped on
+stepped-here : (h : List ℕ) (s first i : ℕ) {set : ℕ} {b : Bool} → i < 64 → set ≡ maskBelow 64 (λ i. steppedAt h s (first + i))
+    → b ≡ bit set (i % 64) → b ≡ steppedAt h s (first + i)
+stepped-here h s first i l found test =
+    let own : i % 64 ≡ i = omega arith in
+    test ∙ rw (own, found) (bit-mask-below 64 (λ i. steppedAt h s (first + i)) i l)
 
 mul-word-at : tie.Need-mul-word-at Inv-loop μ-loop
 mul-word-at c =
@@ -66,7 +78,7 @@ loop-holds : tie.Need-loop-holds Inv-loop μ-loop
 loop-holds c =
     let start = c .before .before .before in
     let none : start .args .first ≡ start .args .first + 0 = omega arith in
-    (search needs, rw none at (start .pre .5))
+    (search needs, rw none at (start .pre .6))
 
 add-o : tie.Need-add-o Inv-loop μ-loop
 add-o c =
@@ -84,18 +96,22 @@ bit64-requires c κs = search needs
 bit64-requires-2 : tie.Need-bit64-requires-2 Inv-loop μ-loop
 bit64-requires-2 c κs = search needs
 
+bit64-requires-3 : tie.Need-bit64-requires-3 Inv-loop μ-loop
+bit64-requires-3 c κs = search needs
+
 past-after-requires : tie.Need-past-after-requires Inv-loop μ-loop
-unfolding index
+unfolding readAt writtenAt index
 past-after-requires c κs =
-    let start = c .before .before .before .before .before .before .before .before in
+    let looped = c .before .before .before .before .before in
+    let start = looped .before .before .before .before in
     let args = start .args in
     let t = tablesOf (now (args .t)) in
-    let i = c .before .before .before .before .loop .i in
-    let reads = c .before .before .before .before .before .before .word-at in
-    let writes = c .before .before .before .before .before .word-at2 in
-    let known = c .before .before .before .before .before .before .before .shared-slice-known in
+    let i = looped .loop .i in
+    let reads = looped .before .before .word-at in
+    let writes = looped .before .word-at2 in
+    let known = looped .before .before .before .shared-slice-known in
     let inside : args .first + i < 128 = omega (arith, start .pre .4) in
-    let entry = entry-below t (start .pre .1) (args .first + i) inside (c .before .before .folder .ensures) in
+    let entry = entry-below t (start .pre .1) (args .first + i) inside (c .before .before .before .folder .ensures) in
     let person = person-below t (args .s) (start .pre .2) in (
       record {
         bounds = record { size = start .pre .0; person = person; folder = inside };
@@ -103,9 +119,10 @@ past-after-requires c κs =
         kind = entry .1;
       },
       word-place (args .h .now) _ i _ (λ k. known .given k .fits) (omega arith) (reads .ensures)
-          (c .before .bit64 .ensures) (omega (arith, start .pre .3)),
+          (c .before .before .bit64 .ensures) (omega (arith, start .pre .3)),
       word-place (args .h .now) _ i _ (λ k. known .given k .fits) (omega arith) (writes .ensures)
-          (c .bit642 .ensures) (omega (arith, start .pre .3)),
+          (c .before .bit642 .ensures) (omega (arith, start .pre .3)),
+      stepped-here (args .h .now) (args .s) (args .first) i (omega arith) (start .pre .5) (c .bit643 .ensures),
     )
 
 add-i : tie.Need-add-i Inv-loop μ-loop
@@ -116,16 +133,17 @@ loop-less c = search needs
 
 loop-again : tie.Need-loop-again Inv-loop μ-loop
 loop-again c =
-    let start = c .before .before .before .before .before .before .before .before .before in
+    let looped = c .before .before .before .before .before .before in
+    let start = looped .before .before .before .before in
     let args = start .args in
-    let loop = c .before .before .before .before .before .loop in
+    let loop = looped .loop in
     let t = tablesOf (now (args .t)) in
     let o = args .first + loop .i in
     let next : o + 1 ≡ args .first + (loop .i + 1) = omega arith in
     let inside : o < 128 = omega (arith, start .pre .4) in (
       search needs,
       rw next at
-          (past-turn t (args .h .now) (args .s) (start .pre .2) o inside (start .pre .1) (c .before .before .before .folder .ensures)
+          (past-turn t (args .h .now) (args .s) (start .pre .2) o inside (start .pre .1) (c .before .before .before .before .folder .ensures)
           (loop .inv .1) (c .past-after .ensures)),
     )
 
@@ -153,6 +171,7 @@ past-over-spec =
     folder-requires
     bit64-requires
     bit64-requires-2
+    bit64-requires-3
     past-after-requires
     add-i
     loop-less

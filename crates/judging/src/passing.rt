@@ -1,0 +1,102 @@
+// What each rule says if it is in force, and whether it asks at all: a rule that is not in force refuses nothing.
+ghost use mathlib.Core.Path.{_≡_};
+ghost use mathlib.Core.Bool.{true};
+ghost use Rattle.bits.specs.Bounded.{_implies_};
+ghost use Rattle.policy.specs.Tables.{personDeclared, folderDeclared, inForce, wallRule, rolesRule};
+ghost use Rattle.policy.specs.Rulebook.{given};
+ghost use Rattle.policy.specs.Request.{setOf};
+ghost use Rattle.policy.specs.Rules.{currentLevel};
+ghost use Rattle.packed.specs.Packed.{tablesOf};
+ghost use Rattle.past.specs.Folders.{foldersOf};
+ghost use Rattle.past.specs.Turns.{steppedAt};
+ghost use Rattle.rules.specs.Sets.{wallBy, rolesBy};
+ghost use Rattle.judging.specs.Judging.{Ready, asksPast, asksLevel, levelPasses, startPasses};
+use packed::Words;
+use past::Folders;
+use past::levels;
+
+// Whether the wall or roles are in force. Only these two ask for all that a person did.
+pub fn asks_past(t: &Words) -> bool
+    ensures { λ r. ⌜ r ≡ asksPast (tablesOf (now (t .entry))) ⌝ }
+{
+    if packed::in_force(t, policy::WALL_RULE) {
+        return true;
+    }
+    packed::in_force(t, policy::ROLES_RULE)
+}
+
+// Whether low-water asks about an access: about one that modifies the folder, a write or a step, if it is in force.
+pub fn asks_level(t: &Words, modifies: bool) -> bool
+    ensures { λ r. ⌜ r ≡ asksLevel (tablesOf (now (t .entry))) modifies ⌝ }
+{
+    if modifies {
+        return packed::in_force(t, policy::LOW_WATER_RULE);
+    }
+    false
+}
+
+// Whether the wall, if it is in force, permits an access to folder o by a person for whom it counts these firms.
+pub fn wall_passes(t: &Words, counted: u64, o: usize) -> bool
+    requires { ⌜ (given (tablesOf (now t)) ≡ true) × (folderDeclared (tablesOf (now t)) o ≡ true) ⌝ }
+    ensures { λ r. ⌜
+        r ≡ (inForce (tablesOf (now (t .entry))) wallRule implies wallBy (tablesOf (now (t .entry))) counted o)
+        ⌝ }
+{
+    if packed::in_force(t, policy::WALL_RULE) {
+        return rules::wall_permits(t, counted, o);
+    }
+    true
+}
+
+// Whether low-water, if it asks, permits person s, who stepped on these folders, an access to folder o.
+pub fn level_passes(
+    t: &Words,
+    h: &[u8],
+    s: usize,
+    stepped: Folders,
+    o: usize,
+    modifies: bool,
+) -> bool
+    requires { ⌜
+        Ready (tablesOf (now t)) (now h) × (personDeclared (tablesOf (now t)) s ≡ true)
+        × (folderDeclared (tablesOf (now t)) o ≡ true) × (stepped ≡ foldersOf (steppedAt (now h) s))
+        ⌝ }
+    ensures { λ r. ⌜
+        r ≡ levelPasses (tablesOf (now (t .entry))) o (currentLevel (tablesOf (now (t .entry))) (setOf (now (h .entry))) s) modifies
+        ⌝ }
+{
+    if !asks_level(t, modifies) {
+        return true;
+    }
+    let folder = packed::folder(t, o);
+    let level = folder.level;
+    level.compare(levels::level_with(t, h, s, stepped))
+}
+
+// Whether roles, if they are in force, permit a right to a person who used these.
+pub fn roles_pass(t: &Words, used: u64, right: usize) -> bool
+    ensures { λ r. ⌜
+        r ≡ (inForce (tablesOf (now (t .entry))) rolesRule implies rolesBy (tablesOf (now (t .entry))) used right)
+        ⌝ }
+{
+    if packed::in_force(t, policy::ROLES_RULE) {
+        return rules::roles_permit(t, used, right);
+    }
+    true
+}
+
+// Whether low-water, if it is in force, permits a start of person u by person s, who stepped on these folders.
+pub fn start_passes(t: &Words, h: &[u8], s: usize, stepped: Folders, u: usize) -> bool
+    requires { ⌜
+        Ready (tablesOf (now t)) (now h) × (personDeclared (tablesOf (now t)) s ≡ true)
+        × (personDeclared (tablesOf (now t)) u ≡ true) × (stepped ≡ foldersOf (steppedAt (now h) s))
+        ⌝ }
+    ensures { λ r. ⌜ r ≡ startPasses (tablesOf (now (t .entry))) (setOf (now (h .entry))) s u ⌝ }
+{
+    if !packed::in_force(t, policy::LOW_WATER_RULE) {
+        return true;
+    }
+    let own = levels::level_with(t, h, s, stepped);
+    let other = levels::current_level(t, h, u);
+    other.compare(own)
+}

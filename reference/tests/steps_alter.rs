@@ -1,0 +1,331 @@
+//! A step alters the folder (Point 2 of the later requests): it needs the
+//! folder's level as a write does, and it lowers the person as a read does.
+//!
+//! In the marked book persons 0 and 1 are first at 0x2003 and 0x1001, folders 0
+//! and 1 are at 0x2003, and folder 2 is at 0x1001.
+
+mod common;
+
+use common::{history, marked, with_mask, NO_RUN};
+use reference::history::{set_of, write_set, History};
+use reference::marked::{STEP_ANSWERS, STEP_BOOK, STEP_REQUESTS};
+use reference::random::Random;
+use reference::{judge, load, put, run, standing, Level, Ran, Request, Tables};
+
+/// Puts records from a history and expects their numbers.
+fn expect_puts(tables: &Tables, bytes: &mut [u8], puts: &[(&[u8], u8)]) {
+    for (place, (record, number)) in puts.iter().enumerate() {
+        assert_eq!(put(tables, bytes, record), *number, "{place}: {record:?}");
+    }
+}
+
+/// The history in which only these requests have a bit.
+fn bytes_of(requests: impl IntoIterator<Item = Request>) -> Vec<u8> {
+    let mut bytes = history();
+    write_set(&requests.into_iter().collect(), &mut bytes);
+    bytes
+}
+
+fn level(tables: &Tables, bytes: &[u8], person: u8) -> u16 {
+    let found = standing(tables, bytes, person);
+    assert_eq!(found.number, 0);
+    found.level
+}
+
+#[test]
+fn the_worked_case() {
+    let tables = load(&STEP_BOOK).tables;
+    let (mut as_run, mut as_puts, mut answers) = (history(), history(), [99; 4]);
+    let ran = run(&tables, &mut as_run, &STEP_REQUESTS, &mut answers);
+    assert_eq!((ran.granted, ran.refused), (2, 2));
+    assert_eq!(answers, STEP_ANSWERS);
+    let puts: [(&[u8], u8); 4] = [
+        (&[19, 0, 5, 1], 0),
+        (&[17, 0, 0], 15),
+        (&[19, 0, 3, 2], 15),
+        (&[19, 0, 0, 1], 0),
+    ];
+    expect_puts(&tables, &mut as_puts, &puts);
+    assert_eq!(as_run, as_puts);
+    assert_eq!(level(&tables, &as_run, 0), 0x1001);
+}
+
+#[test]
+fn every_step_lowers_as_a_read_does() {
+    let tables = with_mask(2);
+    let steps = (0..16).map(|step| vec![19, 0, step, 2]);
+    for lowering in steps.chain([vec![16, 0, 2]]) {
+        let mut bytes = history();
+        let before: [(&[u8], u8); 4] = [
+            (&[17, 0, 0], 0),
+            (&[19, 0, 7, 0], 0),
+            (&[18, 1, 0], 15),
+            (&lowering, 0),
+        ];
+        expect_puts(&tables, &mut bytes, &before);
+        assert_eq!(level(&tables, &bytes, 0), 0x1001);
+        let after: [(&[u8], u8); 6] = [
+            (&[17, 0, 0], 15),
+            (&[19, 0, 7, 0], 15),
+            (&[18, 1, 0], 0),
+            (&[17, 0, 2], 0),
+            (&[19, 0, 0, 2], 0),
+            (&[16, 0, 0], 0),
+        ];
+        expect_puts(&tables, &mut bytes, &after);
+        assert_eq!(level(&tables, &bytes, 0), 0x1001);
+    }
+}
+
+#[test]
+fn a_step_is_judged_by_the_current_level() {
+    let tables = with_mask(2);
+    let mut bytes = history();
+    // At the first level, whatever the step, and again.
+    for step in [0, 1, 15, 15] {
+        expect_puts(&tables, &mut bytes, &[(&[19, 0, step, 0], 0)]);
+        assert_eq!(level(&tables, &bytes, 0), 0x2003);
+    }
+    expect_puts(&tables, &mut bytes, &[(&[16, 0, 2], 0)]);
+    let before = bytes.clone();
+    for step in 0..16 {
+        expect_puts(&tables, &mut bytes, &[(&[19, 0, step, 0], 15)]);
+        expect_puts(&tables, &mut bytes, &[(&[19, 1, step, 1], 15)]);
+    }
+    // A refused step is not recorded and lowers nobody.
+    assert_eq!(bytes, before);
+    assert_eq!(level(&tables, &bytes, 1), 0x1001);
+}
+
+#[test]
+fn a_step_needs_the_compartments_too() {
+    let tables = load(&STEP_BOOK).tables;
+    // The rank of folder 2 is lower than that of the person.
+    let puts: [(&[u8], u8); 2] = [(&[19, 0, 3, 2], 15), (&[17, 0, 2], 15)];
+    expect_puts(&tables, &mut history(), &puts);
+}
+
+#[test]
+fn steps_lower_under_every_mask() {
+    for mask in 0..16 {
+        let tables = with_mask(mask);
+        let mut bytes = history();
+        expect_puts(&tables, &mut bytes, &[(&[19, 0, 0, 2], 0)]);
+        assert_eq!(level(&tables, &bytes, 0), 0x1001);
+        let written = if mask & 2 == 0 { 0 } else { 15 };
+        expect_puts(&tables, &mut bytes, &[(&[17, 0, 0], written)]);
+        for step in 0..16 {
+            let stepped = Request::Step {
+                person: 0,
+                step,
+                folder: 2,
+            };
+            assert_eq!(level(&tables, &bytes_of([stepped]), 0), 0x1001);
+        }
+    }
+}
+
+#[test]
+fn writes_and_starts_do_not_lower() {
+    for mask in 0..16 {
+        let tables = with_mask(mask);
+        let mut bytes = history();
+        let puts: [(&[u8], u8); 4] = [
+            (&[17, 0, 2], 0),
+            (&[18, 0, 1], 0),
+            (&[17, 0, 0], 0),
+            (&[19, 0, 0, 0], 0),
+        ];
+        expect_puts(&tables, &mut bytes, &puts);
+        assert_eq!(level(&tables, &bytes, 0), 0x2003);
+    }
+}
+
+#[test]
+fn a_step_of_another_person_does_not_lower() {
+    for mask in 0..16 {
+        let tables = with_mask(mask);
+        let mut bytes = history();
+        expect_puts(&tables, &mut bytes, &[(&[19, 1, 0, 2], 0)]);
+        assert_eq!(level(&tables, &bytes, 0), 0x2003);
+        expect_puts(&tables, &mut bytes, &[(&[17, 0, 0], 0)]);
+    }
+}
+
+#[test]
+fn steps_of_undeclared_parties_lower_nothing() {
+    let mut past = Vec::new();
+    for step in 0..16 {
+        // Folders 3 to 127 and persons 2 to 63 are undeclared.
+        for (person, folder) in [(0, 3), (0, 127), (2, 2), (63, 2), (2, 3)] {
+            past.push(Request::Step {
+                person,
+                step,
+                folder,
+            });
+        }
+    }
+    let bytes = bytes_of(past);
+    for mask in 0..16 {
+        let tables = with_mask(mask);
+        let found = standing(&tables, &bytes, 0);
+        assert_eq!((found.level, found.rights, found.firms), (0x2003, 0, 0));
+        for record in [&[17, 0, 0][..], &[19, 0, 0, 0], &[18, 0, 1]] {
+            assert_eq!(judge(&tables, &bytes, record), 0);
+        }
+    }
+}
+
+/// A step that every rule refuses, and one that all but the wall refuse: the
+/// first rule in force gives the number.
+#[test]
+fn the_wall_before_the_level_and_this_before_the_others() {
+    let rival_read = Request::Read {
+        person: 1,
+        folder: 1,
+    };
+    for mask in 0..16 {
+        for (bytes, rules) in [
+            (
+                bytes_of([rival_read]),
+                &[(1, 14), (2, 15), (4, 16), (8, 17)][..],
+            ),
+            (history(), &[(2, 15), (4, 16), (8, 17)]),
+        ] {
+            let first = rules.iter().find(|(bit, _)| mask & bit != 0);
+            let number = first.map_or(0, |(_, number)| *number);
+            assert_eq!(judge(&with_mask(mask), &bytes, &[19, 1, 5, 0]), number);
+        }
+    }
+}
+
+#[test]
+fn a_run_takes_the_level_from_its_own_steps() {
+    let requests = [17, 0, 0, 19, 0, 0, 2, 17, 0, 0, 19, 0, 1, 2, 19, 0, 0, 0];
+    let (mut bytes, mut answers) = (history(), [99; 6]);
+    let ran = run(&marked(), &mut bytes, &requests, &mut answers);
+    let expected = Ran {
+        granted: 3,
+        refused: 2,
+        ..NO_RUN
+    };
+    assert_eq!(ran, expected);
+    assert_eq!(answers, [0, 0, 15, 0, 15, 99]);
+}
+
+/// Four persons and eight folders of many levels, and two roles.
+fn some_tables(random: &mut Random, mask: u8) -> Tables {
+    let mut book = vec![1, mask, 2, 0, 0, 2, 1, 0, 2, 2, 1];
+    let some_byte = |random: &mut Random| random.byte() | random.byte() | random.byte();
+    for person in 0..4 {
+        book.extend([3, person, some_byte(random), some_byte(random)]);
+    }
+    for folder in 0..8 {
+        let (firm, level) = (random.below(3) as u8, [random.byte(), random.byte()]);
+        book.extend([4, folder, firm, folder, level[0] & 15, level[1]]);
+    }
+    for role in 0..2 {
+        book.extend([5, role]);
+        book.extend((random.number() | random.number() | random.number()).to_le_bytes());
+    }
+    book.extend([6, 0, 1, 6, 1, 2, 0]);
+    let loaded = load(&book);
+    assert_eq!(loaded.number, 0);
+    loaded.tables
+}
+
+/// A request of declared parties, or now and then of undeclared ones.
+fn some_request(random: &mut Random) -> Request {
+    let (person, folder) = (random.below(5) as u8, random.below(9) as u8);
+    match random.below(6) {
+        0 => Request::Read { person, folder },
+        1..=2 => Request::Write { person, folder },
+        3 => Request::Start {
+            person,
+            other: random.below(5) as u8,
+        },
+        _ => Request::Step {
+            person,
+            step: random.below(4) as u8,
+            folder,
+        },
+    }
+}
+
+/// Requests put from blank, granted or not, and foreign bits.
+fn some_history(random: &mut Random, tables: &Tables) -> Vec<u8> {
+    let mut bytes = history();
+    for _ in 0..random.below(6) {
+        put(tables, &mut bytes, &some_request(random).as_record());
+    }
+    let mut set = set_of(&bytes);
+    set.extend((0..random.below(4)).map(|_| some_request(random)));
+    bytes_of(set)
+}
+
+/// The history with a read in the place of each step.
+fn with_reads(bytes: &[u8]) -> Vec<u8> {
+    let as_reads: History = set_of(bytes)
+        .into_iter()
+        .map(|past| match past {
+            Request::Step { person, folder, .. } => Request::Read { person, folder },
+            _ => past,
+        })
+        .collect();
+    bytes_of(as_reads)
+}
+
+/// Point 2 in other words: a step is judged as a write, and levels are those
+/// of a history in which each step was a read.
+#[test]
+fn low_water_in_other_words() {
+    let mut random = Random::new(21);
+    let (mut refused, mut lowered) = (0, 0);
+    for _ in 0..500 {
+        let tables = some_tables(&mut random, 2);
+        let bytes = some_history(&mut random, &tables);
+        let read = with_reads(&bytes);
+        for person in 0..4 {
+            assert_eq!(
+                level(&tables, &bytes, person),
+                level(&tables, &read, person)
+            );
+            let first = tables.persons[usize::from(person)].level;
+            lowered += usize::from(Level::from_number(level(&tables, &bytes, person)) != first);
+        }
+        for _ in 0..10 {
+            let request = some_request(&mut random);
+            let as_write = match request {
+                Request::Step { person, folder, .. } => Request::Write { person, folder },
+                _ => request,
+            };
+            let number = judge(&tables, &bytes, &request.as_record());
+            assert_eq!(number, judge(&tables, &read, &as_write.as_record()));
+            refused += usize::from(number == 15 && request != as_write);
+        }
+    }
+    assert!(refused > 300 && lowered > 300, "{refused} {lowered}");
+}
+
+/// Where low-water is not in force, no level changes a number.
+#[test]
+fn levels_change_low_water_alone() {
+    let mut random = Random::new(22);
+    for turn in 0..400 {
+        let tables = some_tables(&mut random, [0, 1, 4, 5, 8, 9, 12, 13][turn % 8]);
+        let bytes = some_history(&mut random, &tables);
+        let mut lowest = tables.clone();
+        for person in &mut lowest.persons {
+            person.level = Level::lowest();
+        }
+        for folder in &mut lowest.folders[..4] {
+            folder.level = Level::lowest();
+        }
+        for _ in 0..10 {
+            let record = some_request(&mut random).as_record();
+            let number = judge(&tables, &bytes, &record);
+            assert_eq!(number, judge(&lowest, &bytes, &record));
+            assert_ne!(number, 15);
+        }
+    }
+}
