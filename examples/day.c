@@ -1,5 +1,6 @@
 /* The marked day of document 01 (P1): loads the printed book, runs its ten requests from a blank history and prints the answers. Then
- * a lobby with a public folder, and a book that is refused with 19. Exits with 1 if something else is answered than stands here. */
+ * a lobby with a public folder, a book that is refused with 19, and a post room whose steps lower. Exits with 1 if something else is
+ * answered than stands here. */
 #include "kweldabe.h"
 
 #include <stdio.h>
@@ -33,16 +34,38 @@ static const uint8_t passed[] = {0, 14, 0, 14};
 /* A mark of a folder that is not declared: 19 at 2. */
 static const uint8_t undeclared[] = {1, 1, 7, 2, 0};
 
+/* Low-water alone: a step on folder 1 lowers the person, so that a write in folder 0 and a step on folder 2 are refused. */
+static const uint8_t post_room[] = {
+    1, 2, 2, 0, 0, 3, 0, 3, 32, 4, 0, 0, 0, 3, 32, 4, 1, 0, 0, 1, 16, 4, 2, 0, 0, 4, 16, 0,
+};
+
+static const uint8_t steps[] = {19, 0, 5, 1, 17, 0, 0, 19, 0, 3, 2, 19, 0, 0, 1};
+
+static const uint8_t lowered[] = {0, 15, 15, 0};
+
 static uint8_t history[KWELDABE_HISTORY_BYTES];
 static uint8_t answers[sizeof expected];
 
-static int lobby_is_open(void) {
+/* Runs four requests from a blank history, and says whether the answers are these. */
+static int answered(const char *name, const uint8_t *rules, size_t rules_length, const uint8_t *asked, size_t asked_length,
+                    const uint8_t *numbers) {
     if (kweldabe_blank(history, sizeof history) != 0) {
         return 0;
     }
-    kweldabe_run(lobby, sizeof lobby, history, sizeof history, visits, sizeof visits, answers, sizeof passed);
-    printf("lobby %u %u %u %u\n", (unsigned)answers[0], (unsigned)answers[1], (unsigned)answers[2], (unsigned)answers[3]);
-    return memcmp(answers, passed, sizeof passed) == 0 && kweldabe_load(undeclared, sizeof undeclared) == (2 << 8 | 19);
+    kweldabe_run(rules, rules_length, history, sizeof history, asked, asked_length, answers, 4);
+    printf("%s %u %u %u %u\n", name, (unsigned)answers[0], (unsigned)answers[1], (unsigned)answers[2], (unsigned)answers[3]);
+    return memcmp(answers, numbers, 4) == 0;
+}
+
+static int lobby_is_open(void) {
+    return answered("lobby", lobby, sizeof lobby, visits, sizeof visits, passed) &&
+           kweldabe_load(undeclared, sizeof undeclared) == (2 << 8 | 19);
+}
+
+/* The person's level is then that of folder 1. */
+static int steps_alter(void) {
+    return answered("post room", post_room, sizeof post_room, steps, sizeof steps, lowered) &&
+           (kweldabe_standing(post_room, sizeof post_room, history, sizeof history, 0) >> 8 & 0xffff) == 0x1001;
 }
 
 int main(void) {
@@ -61,5 +84,5 @@ int main(void) {
     }
     printf("granted %u refused %u\n", (unsigned)(ran >> 8 & 0xffffff), (unsigned)(ran >> 32 & 0xffffff));
     const int same = memcmp(answers, expected, sizeof expected) == 0;
-    return same && ran == ((uint64_t)5 << 32 | 5 << 8) && lobby_is_open() ? 0 : 1;
+    return same && ran == ((uint64_t)5 << 32 | 5 << 8) && lobby_is_open() && steps_alter() ? 0 : 1;
 }

@@ -1,5 +1,5 @@
-/* The access monitor of document 01, with Point 1 of document 02, for C. The functions are in libexports.a, which `rt staticlib exports`
- * writes.
+/* The access monitor of document 01, with Points 1 and 2 of document 02, for C. The functions are in libexports.a, which
+ * `rt staticlib exports` writes.
  *
  * Bytes are lent as a pointer and a length. A pointer is never null, also where the length is 0, and points to as many readable bytes
  * as the length says. What is lent for writing (history in blank, put and run; answers) overlaps nothing else that the call is lent.
@@ -12,7 +12,11 @@
  * The records of a book have kinds 0 to 7, and 2 begins at kind 8. Kind 7 has one byte, a folder, and marks that folder public: the
  * wall passes requests for it and does not count it among the folders already opened. It still lowers levels, uses rights and takes
  * part in the pipeline, and its firm counts in a standing. A book is refused with 4 if that folder is out of range, with 5 if it was
- * marked before, and with 19 if it is not declared earlier. */
+ * marked before, and with 19 if it is not declared earlier.
+ *
+ * A step alters its folder: low-water refuses it with 15 where it refuses a write, and a granted step lowers its person as a read does,
+ * whatever rules are in force. So a person's current level is the meet of the first level and the levels of all folders that the person
+ * has read or stepped on. */
 #ifndef KWELDABE_H
 #define KWELDABE_H
 

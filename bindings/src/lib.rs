@@ -1,5 +1,6 @@
-//! The access monitor of document 01, with Point 1 of document 02 (public
-//! folders), proved in Rattle and called from Rust.
+//! The access monitor of document 01, with Points 1 (public folders) and 2 (a
+//! step alters the folder) of document 02, proved in Rattle and called from
+//! Rust.
 //!
 //! A call that needs the tables of a rulebook takes the bytes of the book and
 //! loads it. A refused book is answered with its number, 1 to 9 or 19. A call
@@ -9,6 +10,9 @@
 //! one byte, a folder, and marks that folder public: the wall passes requests
 //! for it and does not count it among the folders already opened. A book that
 //! marks a folder not declared earlier is refused with 19.
+//!
+//! Low-water refuses a step with 15 where it refuses a write, and a granted
+//! step lowers its person as a read does, whatever rules are in force.
 //!
 //! The exported functions ask nothing of their arguments but what slices of
 //! Rust always keep: pointers that are not null, lengths that are right, and

@@ -108,6 +108,22 @@ fn judge_access(t: &Words, h: &[u8], s: usize, o: usize, write: bool) -> u8
     judge_rules(t, &h[0..], s, o, access_right(write, folder.kind), write)
 }
 
+// Wall, low-water and roles for a step. Where none of them asks it is granted here, with no call.
+fn step_rules(t: &Words, h: &[u8], s: usize, p: usize, o: usize) -> u8
+    requires { ⌜
+        Ready (tablesOf (now t)) (now h) × (personDeclared (tablesOf (now t)) s ≡ true)
+        × (folderDeclared (tablesOf (now t)) o ≡ true) × (p < 16)
+        ⌝ }
+    ensures { λ r. ⌜ r ≡ accessNumber (tablesOf (now (t .entry))) (setOf (now (h .entry))) s o (48 + p) true ⌝ }
+{
+    if !passing::asks_past(t) {
+        if !passing::asks_level(t, true) {
+            return numbers::GRANTED;
+        }
+    }
+    judge_rules(t, h, s, o, 48 + p, true)
+}
+
 // Step p on folder o by person s, which modifies the folder. The history is lent on as a part, as in `judge_access`.
 fn judge_step(t: &Words, h: &[u8], s: usize, p: usize, o: usize) -> u8
     requires { ⌜ Ready (tablesOf (now t)) (now h) ⌝ }
@@ -119,7 +135,7 @@ fn judge_step(t: &Words, h: &[u8], s: usize, p: usize, o: usize) -> u8
     if !are_declared(t, s, o) {
         return numbers::UNDECLARED;
     }
-    let n = judge_rules(t, &h[0..], s, o, 48 + p, true);
+    let n = step_rules(t, &h[0..], s, p, o);
     if n != numbers::GRANTED {
         return n;
     }

@@ -25,7 +25,7 @@ use Rattle.judging.proofs.judge_step.Tie as tie
 use Rattle.judging.proofs.judge_step.Reads as reads
 use Rattle.judging.proofs.judge_step.Lts as lts
 use Rattle.judging.proofs.are_declared.Reads as are-declared-reads
-use Rattle.judging.proofs.judge_rules.Reads as judge-rules-reads
+use Rattle.judging.proofs.step_rules.Reads as step-rules-reads
 use Rattle.packed.proofs.in_force.Reads as in-force-reads
 use Rattle.pipeline.proofs.permits.Reads as permits-reads
 
@@ -41,27 +41,24 @@ returns-2 c =
     (not-declared _ _ (step _ _ _)
     (undeclared-step _ _ _ _ (sym (c .before .are-declared .ensures) ∙ not-true _ (c .if2 .taken))))
 
-sub-judge-rules : tie.Need-sub-judge-rules
-sub-judge-rules c = search needs
+sub-step-rules : tie.Need-sub-step-rules
+sub-step-rules c = search needs
 
-part-judge-rules-start : tie.Need-part-judge-rules-start
-part-judge-rules-start c = search needs
+part-step-rules-start : tie.Need-part-step-rules-start
+part-step-rules-start c = search needs
 
-part-judge-rules-end : tie.Need-part-judge-rules-end
-part-judge-rules-end c = search needs
+part-step-rules-end : tie.Need-part-step-rules-end
+part-step-rules-end c = search needs
 
-add-judge-rules : tie.Need-add-judge-rules
-add-judge-rules c = search needs
-
-judge-rules-requires : tie.Need-judge-rules-requires
-judge-rules-requires c κs =
+step-rules-requires : tie.Need-step-rules-requires
+step-rules-requires c κs =
     let start = c .before .before .before .before .before in
     let t = tablesOf (now (start .args .t)) in
     let are-declared = c .before .before .are-declared in
     let known =
     known-both (personDeclared t (start .args .s)) (folderDeclared t (start .args .o))
     (are-declared .result) (are-declared .ensures) (c .before .if2 .left) in
-    rw whole-part (start .pre, known .0, known .1)
+    rw whole-part (start .pre, known .0, known .1, omega arith)
 
 returns-3 : tie.Need-returns-3
 returns-3 c =
@@ -72,9 +69,9 @@ returns-3 c =
     known-both (personDeclared t (start .args .s)) (folderDeclared t (start .args .o))
     (are-declared .result) (are-declared .ensures) (c .before .before .before .if2 .left) in
     let d = step-declared t (start .args .s) (start .args .p) (start .args .o) (known .0) (omega arith) (known .1) in
-    let access = rw whole-part at (c .before .judge-rules .ensures) in
+    let access = rw whole-part at (c .before .step-rules .ensures) in
     sym
-    (before-pipeline _ _ _ _ _ (c .before .judge-rules .result) d
+    (before-pipeline _ _ _ _ _ (c .before .step-rules .result) d
     (access ∙ step-number t (setOf (now (start .args .h))) (start .pre .tables) (start .args .s) (start .args .p) (start .args .o) d)
     (c .if3 .taken))
 
@@ -90,7 +87,7 @@ returns-4 c =
     known-both (personDeclared t (start .args .s)) (folderDeclared t (start .args .o))
     (are-declared .result) (are-declared .ensures) (c .before .before .before .before .before .if2 .left) in
     let d = step-declared t (start .args .s) (start .args .p) (start .args .o) (known .0) (omega arith) (known .1) in
-    let access = rw whole-part at (c .before .before .before .judge-rules .ensures) in
+    let access = rw whole-part at (c .before .before .before .step-rules .ensures) in
     let off : inForce t pipelineRule ≡ false = sym (c .before .in-force .ensures) ∙ not-true _ (c .if4 .taken) in
     sym
     (then-pipeline t (setOf (now (start .args .h))) _ _ _ d
@@ -126,7 +123,7 @@ returns-5 c =
     known-both (personDeclared t (start .args .s)) (folderDeclared t (start .args .o))
     (are-declared .result) (are-declared .ensures) (c .before .before .before .before .before .before .before .before .if2 .left) in
     let d = step-declared t (start .args .s) (start .args .p) (start .args .o) (known .0) (omega arith) (known .1) in
-    let access = rw whole-part at (c .before .before .before .before .before .before .judge-rules .ensures) in
+    let access = rw whole-part at (c .before .before .before .before .before .before .step-rules .ensures) in
     let permits = rw whole-part at (c .before .permits .ensures) in
     let on : inForce t pipelineRule ≡ true =
     sym (c .before .before .before .before .in-force .ensures) ∙ not-false _ (c .before .before .before .if4 .left) in
@@ -145,7 +142,7 @@ returns-6 c =
     known-both (personDeclared t (start .args .s)) (folderDeclared t (start .args .o))
     (are-declared .result) (are-declared .ensures) (c .before .before .before .before .before .before .before .before .if2 .left) in
     let d = step-declared t (start .args .s) (start .args .p) (start .args .o) (known .0) (omega arith) (known .1) in
-    let access = rw whole-part at (c .before .before .before .before .before .before .judge-rules .ensures) in
+    let access = rw whole-part at (c .before .before .before .before .before .before .step-rules .ensures) in
     let permits = rw whole-part at (c .before .permits .ensures) in
     let on : inForce t pipelineRule ≡ true =
     sym (c .before .before .before .before .in-force .ensures) ∙ not-false _ (c .before .before .before .if4 .left) in
@@ -162,11 +159,10 @@ judge-step-spec =
     returns
     are-declared-requires
     returns-2
-    sub-judge-rules
-    part-judge-rules-start
-    part-judge-rules-end
-    add-judge-rules
-    judge-rules-requires
+    sub-step-rules
+    part-step-rules-start
+    part-step-rules-end
+    step-rules-requires
     returns-3
     in-force-requires
     returns-4
