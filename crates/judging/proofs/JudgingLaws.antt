@@ -79,33 +79,17 @@ pub passes : (b w : Bool) → ((b ≡ true) × (w ≡ true)) ⊎ (b ≡ false) �
 passes b w (inl h) = rw (h .0) (h .1)
 passes b w (inr n) = rw n
 
-pub refuses : (b w : Bool) → b ≡ true → w ≡ false → (b implies w) ≡ false
-refuses b w p q = rw p q
-
 -- a test of two that does not fail
 pub known-both : (a b r : Bool) → r ≡ a && b → not r ≡ false → (a ≡ true) × (b ≡ true)
 known-both a b r e n = let both = sym e ∙ not-false r n in (and-left a b both, and-right a b both)
 
 -- ---- the three rules of an access
 
-module _ (t : Tables) (w l r : Bool) where
-  pub number-wall : (inForce t wallRule implies w) ≡ false → numberOf t w l r ≡ 14
-  unfolding numberOf ladder
-  number-wall a = rw a
-
-  pub number-level : (inForce t wallRule implies w) ≡ true → (inForce t lowWaterRule implies l) ≡ false → numberOf t w l r ≡ 15
-  unfolding numberOf ladder
-  number-level a b = rw (a, b)
-
-  pub number-roles : (inForce t wallRule implies w) ≡ true → (inForce t lowWaterRule implies l) ≡ true
-      → (inForce t rolesRule implies r) ≡ false → numberOf t w l r ≡ 16
-  unfolding numberOf ladder
-  number-roles a b c = rw (a, b, c)
-
-  pub number-none : (inForce t wallRule implies w) ≡ true → (inForce t lowWaterRule implies l) ≡ true
-      → (inForce t rolesRule implies r) ≡ true → numberOf t w l r ≡ 0
-  unfolding numberOf ladder
-  number-none a b c = rw (a, b, c)
+-- where all three permit
+pub number-none : (t : Tables) (w l r : Bool) → (inForce t wallRule implies w) ≡ true → (inForce t lowWaterRule implies l) ≡ true
+    → (inForce t rolesRule implies r) ≡ true → numberOf t w l r ≡ 0
+unfolding numberOf ladder
+number-none t w l r a b c = rw (a, b, c)
 
 -- low-water alone, where the wall permits and roles are not in force
 pub number-alone : (t : Tables) (l r : Bool) → inForce t lowWaterRule ≡ true → inForce t rolesRule ≡ false
