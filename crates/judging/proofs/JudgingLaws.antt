@@ -221,7 +221,8 @@ module _ (t : Tables) (H : Request → Bool) where
         ≡ numberOf t (wall t H (step s p o)) (lowWater t (currentLevel t H) (step s p o)) (roles t H (step s p o))
     unfolding accessNumber wall lowWater mayModify right subject
     step-number s p o d =
-        ap (numberOf t (wallAccess t H s o) (atMost 12 (folderAt t o .level .0) (currentLevel t H s))) (roles-by t H s ok (step s p o) d refl)
+        ap (numberOf t (wallAccess t H s o) (atMost 12 (folderAt t o .level .0) (currentLevel t H s)))
+        (roles-by t H s ok (step s p o) d refl)
 
 -- an access that no rule in force asks about
 pub unasked-access : (t : Tables) (H : Request → Bool) (writes : Bool) (s o : ℕ) → given t ≡ true → isUnasked t s o writes ≡ true

@@ -1,5 +1,5 @@
--- The persons who stepped on a folder, one step after another: the word at a step's place in a history is the set of the persons who applied
--- it, and the union of the words of the steps below p is the set of those who applied one of these.
+-- The persons who stepped on a folder, one step after another: the word at a step's place in a history is the set of the persons who
+-- applied it, and the union of the words of the steps below p is the set of those who applied one of these.
 use Prim.Native.Nat.{ℕ, _+_, _*_, _<_}
 use native.Mathlib.Omega.{arith}
 use mathlib.Core.Path.{_≡_, sym, ap, ap₂, _∙_}

@@ -84,8 +84,8 @@ unfolding
     declaredBefore firmStands folderStands entersCreate recordChecks madePublic declare reaches hasCircle isLoose hasLoose endChecks
     refusedBook ended loadFrom loadBook subject two three requestOf recordLength same member declared right did stepped accessed firmOfSome
     counts counted otherClass wallAccess wall observed loweredBy currentLevel someRequest used roleCovers roles done leadsTo pipelineStep
-    pipeline mayModify lowWater restOf requestChecks judgeOver addedIf judgeList afterRecord callsFrom callsOf grantedIn refusedIn wallAnswer
-    lowWaterAnswer withTotals
+    pipeline mayModify lowWater restOf requestChecks judgeOver addedIf judgeList afterRecord callsFrom callsOf grantedIn refusedIn
+    wallAnswer lowWaterAnswer withTotals
 marked-cases =
     record {
       P1 = refl;

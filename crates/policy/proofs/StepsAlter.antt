@@ -1,5 +1,5 @@
--- A step needs of the levels what a write needs, and lowers its person as a read does. Up to low-water a step and a write of one folder pass
--- the same checks; and a granted put adds its request to the set, so the levels of standing are met with its folder or stay.
+-- A step needs of the levels what a write needs, and lowers its person as a read does. Up to low-water a step and a write of one folder
+-- pass the same checks; and a granted put adds its request to the set, so the levels of standing are met with its folder or stay.
 use Prim.Native.Nat.{ℕ, _≤_}
 use native.Mathlib.Omega.{arith}
 use mathlib.Core.Path.{_≡_, refl, sym, ap, ap₂, _∙_}
@@ -57,7 +57,8 @@ use Rattle.policy.proofs.Lowering.{Observes, level-stays, level-met, le
 -- up to low-water the two have the same checks
 step-parties : (t : Tables) (s p o : ℕ) → p ≤ 15 → declared t (step s p o) ≡ declared t (write s o)
 unfolding declared
-step-parties t s p o l = ap (λ (b : Bool). personDeclared t s && b && folderDeclared t o) (le-leb p 15 l) ∙ rw (and-true (personDeclared t s))
+step-parties t s p o l =
+    ap (λ (b : Bool). personDeclared t s && b && folderDeclared t o) (le-leb p 15 l) ∙ rw (and-true (personDeclared t s))
 
 step-as-write : (t : Tables) (h bytes bytes′ : List ℕ) (s p o : ℕ) → p ≤ 15 → requestOf bytes ≡ some (step s p o)
     → requestOf bytes′ ≡ some (write s o)

@@ -29,7 +29,8 @@ returns c =
     let args = start .args in
     let wall = c .before in
     access-by (tablesOf (now (args .t))) (setOf (now (args .h))) (start .pre .0 .tables) (args .s) (args .o) (args .right)
-    (args .modifies) (start .pre .2) (wall .before .past-of .ensures) (sym (not-true _ (c .if1 .taken)) ∙ wall .wall-passes .ensures) refl refl
+    (args .modifies) (start .pre .2) (wall .before .past-of .ensures)
+    (sym (not-true _ (c .if1 .taken)) ∙ wall .wall-passes .ensures) refl refl
 
 level-passes-requires : tie.Need-level-passes-requires
 level-passes-requires c κs =
@@ -42,7 +43,8 @@ returns-2 c =
     let args = start .args in
     let wall = c .before .before .before in
     access-by (tablesOf (now (args .t))) (setOf (now (args .h))) (start .pre .0 .tables) (args .s) (args .o) (args .right)
-    (args .modifies) (start .pre .2) (wall .before .past-of .ensures) (sym (not-false _ (c .before .before .if1 .left)) ∙ wall .wall-passes .ensures)
+    (args .modifies) (start .pre .2) (wall .before .past-of .ensures)
+    (sym (not-false _ (c .before .before .if1 .left)) ∙ wall .wall-passes .ensures)
     (sym (not-true _ (c .if2 .taken)) ∙ c .before .level-passes .ensures) refl
 
 roles-pass-requires : tie.Need-roles-pass-requires
@@ -55,7 +57,8 @@ returns-3 c =
     let level = c .before .before .before in
     let wall = level .before .before in
     access-by (tablesOf (now (args .t))) (setOf (now (args .h))) (start .pre .0 .tables) (args .s) (args .o) (args .right)
-    (args .modifies) (start .pre .2) (wall .before .past-of .ensures) (sym (not-false _ (level .before .if1 .left)) ∙ wall .wall-passes .ensures)
+    (args .modifies) (start .pre .2) (wall .before .past-of .ensures)
+    (sym (not-false _ (level .before .if1 .left)) ∙ wall .wall-passes .ensures)
     (sym (not-false _ (c .before .before .if2 .left)) ∙ level .level-passes .ensures)
     (sym (not-true _ (c .if3 .taken)) ∙ c .before .roles-pass .ensures)
 
@@ -66,7 +69,8 @@ returns-4 c =
     let level = c .before .before .before in
     let wall = level .before .before in
     access-by (tablesOf (now (args .t))) (setOf (now (args .h))) (start .pre .0 .tables) (args .s) (args .o) (args .right)
-    (args .modifies) (start .pre .2) (wall .before .past-of .ensures) (sym (not-false _ (level .before .if1 .left)) ∙ wall .wall-passes .ensures)
+    (args .modifies) (start .pre .2) (wall .before .past-of .ensures)
+    (sym (not-false _ (level .before .if1 .left)) ∙ wall .wall-passes .ensures)
     (sym (not-false _ (c .before .before .if2 .left)) ∙ level .level-passes .ensures)
     (sym (not-false _ (c .if3 .left)) ∙ c .before .roles-pass .ensures)
 

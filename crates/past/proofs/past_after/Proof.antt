@@ -1,5 +1,5 @@
--- `past::past_after` answers what a person did up to a folder: one that the person did not touch, or that is undeclared, changes nothing; any
--- other adds the rights, and opens its firm, which the wall counts if the folder is not public.
+-- `past::past_after` answers what a person did up to a folder: one that the person did not touch, or that is undeclared, changes nothing;
+-- any other adds the rights, and opens its firm, which the wall counts if the folder is not public.
 use Prim.Native.Nat.{ℕ}
 use native.Mathlib.Nat.{mod-eq-of-lt}
 use mathlib.Core.Path.{_≡_, sym, ap, _∙_}

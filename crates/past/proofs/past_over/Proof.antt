@@ -143,7 +143,8 @@ loop-again c =
     let inside : o < 128 = omega (arith, start .pre .4) in (
       search needs,
       rw next at
-          (past-turn t (args .h .now) (args .s) (start .pre .2) o inside (start .pre .1) (c .before .before .before .before .folder .ensures)
+          (past-turn t (args .h .now) (args .s) (start .pre .2) o inside (start .pre .1)
+          (c .before .before .before .before .folder .ensures)
           (loop .inv .1) (c .past-after .ensures)),
     )
 

@@ -1,5 +1,5 @@
--- `levels::level_over` answers the level after 64 folders: at each turn the folders left in the set lower the level to the answer, since the
--- lowest of them can come first. The set is a number that falls, as it loses a bit at each turn.
+-- `levels::level_over` answers the level after 64 folders: at each turn the folders left in the set lower the level to the answer, since
+-- the lowest of them can come first. The set is a number that falls, as it loses a bit at each turn.
 use Prim.Native.Nat.{_+_, _^_, _<_}
 use native.Mathlib.Omega.{arith}
 use mathlib.Core.Path.{_≡_, refl, sym, _∙_}

@@ -1,4 +1,5 @@
--- `steps::steppers` answers the set of the persons who stepped on a folder: after p turns it holds those who applied one of the steps below p.
+-- `steps::steppers` answers the set of the persons who stepped on a folder: after p turns it holds those who applied one of the steps
+-- below p.
 use Prim.Native.Nat.{_-_, _≤_}
 use native.Mathlib.Omega.{arith}
 use mathlib.Core.Path.{_≡_}
