@@ -123,18 +123,25 @@ impl Mutant {
         tables.as_book()
     }
 
-    /// The number of a request that low-water refuses: for two mutations a step
-    /// is asked by the other rules, always or where the first level would do.
+    /// The number of a request that low-water refuses. For some mutations only
+    /// the other rules are asked: about a step, always or where the first level
+    /// would do, and about any request where a level that fewer steps lower
+    /// would do.
     fn refused_by_level(&self, book: &[u8], history: &[u8], request: &[u8]) -> u8 {
+        let step = request[0] == 19;
+        let granted_from = |history: &[u8]| {
+            let alone = with_mask(book, |_| LOW_WATER);
+            kweldabe::judge(&alone, history, request) == 0
+        };
         let passes = match self.mutation {
-            Mutation::StepPassesLowWater => true,
-            Mutation::StepByFirstLevel => {
-                let alone = with_mask(book, |_| LOW_WATER);
-                kweldabe::judge(&alone, &[0; HISTORY_BYTES], request) == 0
+            Mutation::StepPassesLowWater => step,
+            Mutation::StepByFirstLevel => step && granted_from(&[0; HISTORY_BYTES]),
+            Mutation::StepsDoNotLower | Mutation::CreateDoesNotLower => {
+                granted_from(&self.past(book, history))
             }
             _ => false,
         };
-        if !passes || request[0] != 19 {
+        if !passes {
             return 15;
         }
         let others = with_mask(book, |mask| mask & !LOW_WATER);

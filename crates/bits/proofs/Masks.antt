@@ -1,6 +1,6 @@
 -- The set of the numbers below n of which a test holds, as bits: its members are those numbers and no others, and a set is empty exactly
 -- where its number is 0. By induction on n, since each number is put in at its own turn.
-use Prim.Native.Nat.{ℕ, zero, suc, _+_, _-_, _*_, _^_, _<_}
+use Prim.Native.Nat.{ℕ, zero, suc, _+_, _-_, _*_, _%_, _^_, _<_}
 use native.Mathlib.Nat.{eq-or-lt-of-le, le-of-suc-le-suc, lt-suc-self, lt-of-lt-of-le}
 use native.Mathlib.Omega.{arith}
 use mathlib.Core.Path.{_≡_, refl, sym, ap, ap₂, _∙_}
@@ -82,6 +82,10 @@ pub bit-mask-below : (n : ℕ) (p : ℕ → Bool) (k : ℕ) → k < n → bit (m
 bit-mask-below n p k l = bit-mask n p k ∙ ap (λ (b : Bool). b && p k) (lt-ltb k n l)
 
 -- a number below 2 ^ n whose bits are those of the test is the set
+-- the test for a number, which is taken modulo the width, in a set that was found
+pub mask-test : (p : ℕ → Bool) (k : ℕ) {set : ℕ} {b : Bool} → k < 64 → set ≡ maskBelow 64 p → b ≡ bit set (k % 64) → b ≡ p k
+mask-test p k l found test = let own : k % 64 ≡ k = omega arith in test ∙ rw (own, found) (bit-mask-below 64 p k l)
+
 pub mask-of-bits : (n m : ℕ) (p : ℕ → Bool) → m < 2 ^ n → ((k : ℕ) → k < n → bit m k ≡ p k) → m ≡ maskBelow n p
 mask-of-bits n m p l h = bits-ext n m (maskBelow n p) l (mask-lt n p) (λ k i. h k i ∙ sym (bit-mask-below n p k i))
 

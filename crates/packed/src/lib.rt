@@ -52,15 +52,14 @@ pub fn is_folder(t: &Words, o: usize) -> bool
     e.declared
 }
 
-// Whether person s is declared; a number out of range is not.
+// Whether person s is declared, by the set of the declared persons; a number out of range is not.
 pub fn is_person(t: &Words, s: usize) -> bool
     ensures { λ r. ⌜ r ≡ personDeclared (tablesOf (now (t .entry))) s ⌝ }
 {
     if s >= 64 {
         return false;
     }
-    let e = person(t, s);
-    e.declared
+    bits::bit64(persons(t), s)
 }
 
 // A word as it is: it has at most 64 bits.

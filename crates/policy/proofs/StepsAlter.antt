@@ -11,7 +11,7 @@ use lib.Dec.{eqb}
 use lib.ListN.{length}
 use borrow.Author.Tests.{eqb-true, eqb-false, eq-eqb, le-leb}
 use Rattle.bits.specs.Bounded.{_implies_}
-use Rattle.bits.proofs.Booleans.{and-left, implies-elim, false-elim, decide}
+use Rattle.bits.proofs.Booleans.{and-left, and-right, implies-elim, false-elim, decide}
 use Rattle.level.specs.Levels.{atMost}
 use Rattle.policy.specs.declared.Tables.{Tables}
 use Rattle.policy.specs.Checks.{ladder}
@@ -31,11 +31,11 @@ use Rattle.policy.specs.Calls.{
   standing,
 }
 use Rattle.policy.specs.Published.{LowWaterInForce, Observed}
-use Rattle.policy.specs.Causes.{recordBytes}
+use Rattle.policy.specs.Causes.{recordBytes, PartiesDeclared}
 use Rattle.policy.specs.StepsAlter.{NotAtFront, LoweredBy, StepsAlter}
 use Rattle.policy.proofs.Requests.{declared-person}
 use Rattle.policy.proofs.Places.{size-recorded, set-zeros}
-use Rattle.policy.proofs.Fronts.{front-request, request-front}
+use Rattle.policy.proofs.Fronts.{front-request, request-front, parties-declared}
 use Rattle.policy.proofs.PublishedNumbers.{standing-number}
 use Rattle.policy.proofs.Refusals.{put-refused}
 use Rattle.policy.proofs.Histories.{added}
@@ -117,6 +117,29 @@ module _ (t : Tables) (h bytes : List ℕ) (s p o : ℕ) (is : requestOf bytes �
   refused-level e =
       let (a, b, d, l) = fifteen _ _ _ _ _ _ (level-other t (setOf h) (step s p o)) (sym (judged-level t h bytes (step s p o) is) ∙ e) in
       rw (standing-level t h s (standing-zero t h s a b (declared-person t s p o d)))
+      (implies-false (inForce t lowWaterRule) _ l)
+
+-- a start is judged by the levels of both persons
+start-persons : (t : Tables) (s u : ℕ) → declared t (start s u) ≡ true → (personDeclared t s ≡ true) × (personDeclared t u ≡ true)
+unfolding declared
+start-persons t s u d = (and-left (personDeclared t s) _ d, and-right (personDeclared t s) _ d)
+
+module _ (t : Tables) (h bytes : List ℕ) (s u : ℕ) (is : requestOf bytes ≡ some (start s u)) where
+  start-granted : LowWaterInForce t → judgeNumber t h bytes ≡ 0
+      → atMost 12 (standing t h u .level .0) (standing t h s .level .0) ≡ true
+  unfolding levelled lowWater inForce
+  start-granted on e =
+      let (a, b, d, l) = zero _ _ _ _ _ _ (sym (judged-level t h bytes (start s u) is) ∙ e) in
+      let (ds, du) = start-persons t s u d in
+      rw (standing-level t h s (standing-zero t h s a b ds), standing-level t h u (standing-zero t h u a b du))
+      (implies-elim _ _ l on)
+
+  start-refused : judgeNumber t h bytes ≡ 15 → atMost 12 (standing t h u .level .0) (standing t h s .level .0) ≡ false
+  unfolding levelled lowWater
+  start-refused e =
+      let (a, b, d, l) = fifteen _ _ _ _ _ _ (level-other t (setOf h) (start s u)) (sym (judged-level t h bytes (start s u) is) ∙ e) in
+      let (ds, du) = start-persons t s u d in
+      rw (standing-level t h s (standing-zero t h s a b ds), standing-level t h u (standing-zero t h u a b du))
       (implies-false (inForce t lowWaterRule) _ l)
 
 read-person : (t : Tables) (s o : ℕ) → declared t (read s o) ≡ true → personDeclared t s ≡ true
@@ -219,6 +242,22 @@ others-stay t h bytes s reads steps = go (requestOf bytes) refl
         (λ n. rw (put-refused t h bytes (eqb-false (judgeNumber t h bytes) 0 n)))
         (decide (eqb (judgeNumber t h bytes) 0))
 
+-- histories with the same requests of declared parties
+passed-over : (t : Tables) (h h′ : List ℕ) (s : ℕ) → length h ≡ length h′
+    → ((q : Request) → PartiesDeclared t q → setOf h q ≡ setOf h′ q) → standing t h s .level .0 ≡ standing t h′ s .level .0
+passed-over t h h′ s size same = same-level t h′ h s size (level-stays t (setOf h′) (setOf h) s (λ i. (there i, back i)))
+  where
+    at : (q : Request) → declared t q ≡ true → setOf h q ≡ setOf h′ q
+    at q d = same q (parties-declared t q .0 d)
+
+    there : (i : ℕ) → Observed t (setOf h) s i → Observed t (setOf h′) s i
+    there i (inl k) = inl (k .0, sym (at (read s i) (k .0)) ∙ k .1)
+    there i (inr (p, k)) = inr (p, (k .0, sym (at (step s p i) (k .0)) ∙ k .1))
+
+    back : (i : ℕ) → Observed t (setOf h′) s i → Observed t (setOf h) s i
+    back i (inl k) = inl (k .0, at (read s i) (k .0) ∙ k .1)
+    back i (inr (p, k)) = inr (p, (k .0, at (step s p i) (k .0) ∙ k .1))
+
 -- ---- from blank
 
 none-observed : (t : Tables) (s o : ℕ) → Observed t (setOf (zeros historyBytes)) s o → ⊥
@@ -243,6 +282,8 @@ steps-alter =
           as-write t h bytes bytes′ s p o l (front-request (step s p o) rest f) (front-request (write s o) rest′ f′);
       granted = λ t h bytes rest s p o f. granted-level t h bytes s p o (front-request (step s p o) rest f);
       refused = λ t h bytes rest s p o f. refused-level t h bytes s p o (front-request (step s p o) rest f);
+      startGranted = λ t h bytes rest s u f. start-granted t h bytes s u (front-request (start s u) rest f);
+      startRefused = λ t h bytes rest s u f. start-refused t h bytes s u (front-request (start s u) rest f);
       lowers = λ t h bytes rest s p o f e.
           let is = front-request (step s p o) rest f in
           let person = declared-person t s p o (put-leaves t h bytes (step s p o) is e .parties) in
@@ -253,4 +294,5 @@ steps-alter =
           lowered t h bytes (read s o) is e s person o (λ i. (λ w. w .1, λ q. (refl, q)));
       leaves = others-stay;
       first = blank-level;
+      passedOver = passed-over;
     }

@@ -5,13 +5,14 @@ use mathlib.Core.Path.{_≡_}
 use mathlib.Core.Logic.{_↔_}
 use mathlib.Core.Bool.{true, false}
 use mathlib.Core.List.{List}
+use lib.ListN.{length}
 use Rattle.level.specs.Levels.{atMost, meetOf}
 use Rattle.policy.specs.declared.Tables.{Tables}
 use Rattle.policy.specs.Tables.{personAt, folderAt}
-use Rattle.policy.specs.Request.{Request, read, write, step}
+use Rattle.policy.specs.Request.{Request, read, write, start, step, setOf}
 use Rattle.policy.specs.Calls.{blankHistory, judgeNumber, putHistory, standing}
 use Rattle.policy.specs.Published.{LowWaterInForce}
-use Rattle.policy.specs.Causes.{AtFront}
+use Rattle.policy.specs.Causes.{AtFront, PartiesDeclared}
 
 -- the record of r does not stand at the front of the bytes
 abbrev pub NotAtFront : Request → List ℕ → Type 0
@@ -35,6 +36,13 @@ pub record StepsAlter : Type 0 where
   pub refused :
       (t : Tables) (h bytes rest : List ℕ) (s p o : ℕ) → AtFront (step s p o) bytes rest
       → judgeNumber t h bytes ≡ 15 → atMost 12 (folderAt t o .level .0) (standing t h s .level .0) ≡ false
+  -- a start is judged by the same levels, those that standing gives to both persons
+  pub startGranted :
+      (t : Tables) (h bytes rest : List ℕ) (s u : ℕ) → AtFront (start s u) bytes rest → LowWaterInForce t
+      → judgeNumber t h bytes ≡ 0 → atMost 12 (standing t h u .level .0) (standing t h s .level .0) ≡ true
+  pub startRefused :
+      (t : Tables) (h bytes rest : List ℕ) (s u : ℕ) → AtFront (start s u) bytes rest
+      → judgeNumber t h bytes ≡ 15 → atMost 12 (standing t h u .level .0) (standing t h s .level .0) ≡ false
   -- "a step granted also lowers the person as a read does", whatever rules are in force
   pub lowers :
       (t : Tables) (h bytes rest : List ℕ) (s p o : ℕ) → AtFront (step s p o) bytes rest → judgeNumber t h bytes ≡ 0
@@ -49,3 +57,7 @@ pub record StepsAlter : Type 0 where
   pub first :
       (t : Tables) (h : List ℕ) (s : ℕ) → standing t (blankHistory h) s .number ≡ 0
       → standing t (blankHistory h) s .level .0 ≡ personAt t s .level .0
+  -- and requests of undeclared persons and folders lower nobody: histories that differ in such requests alone give the same level
+  pub passedOver :
+      (t : Tables) (h h′ : List ℕ) (s : ℕ) → length h ≡ length h′ → ((q : Request) → PartiesDeclared t q → setOf h q ≡ setOf h′ q)
+      → standing t h s .level .0 ≡ standing t h′ s .level .0

@@ -1,23 +1,23 @@
--- `is_person` is the mark of the entry; a number out of range has no entry.
-use borrow.Author.Tests.{lt-ltb, le-ltb}
-use Rattle.policy.specs.Tables.{personDeclared}
+-- `is_person` is the person's bit in the set of the declared persons; a number out of range is in none.
+use borrow.Author.Tests.{le-ltb}
 use borrow.Author.Needs.{needs}
+use Rattle.bits.proofs.Masks.{mask-test}
+use Rattle.policy.specs.Tables.{personDeclared}
 use Rattle.packed.proofs.is_person.Statement.{statement}
 use Rattle.packed.proofs.is_person.Tie as tie
-use Rattle.packed.proofs.is_person.Reads as reads
-use Rattle.packed.proofs.is_person.Lts as lts
-use Rattle.packed.proofs.person.Reads as person-reads
 
 returns : tie.Need-returns
 unfolding personDeclared
 returns c = rw (le-ltb _ 64 (c .if1 .taken))
 
-person-requires : tie.Need-person-requires
-person-requires c κs = search needs
+persons-requires : tie.Need-persons-requires
+persons-requires c κs = search needs
+
+bit64-requires : tie.Need-bit64-requires
+bit64-requires c κs = search needs
 
 returns-2 : tie.Need-returns-2
-unfolding personDeclared
-returns-2 c = rw (lt-ltb _ 64 (c .before .if1 .left), ← c .person .ensures)
+returns-2 c = mask-test (personDeclared _) _ (c .before .before .if1 .left) (c .before .persons .ensures) (c .bit64 .ensures)
 
 pub is-person-spec : {M : Type 1} → statement M
-is-person-spec = tie.close (tie.spec returns person-requires returns-2)
+is-person-spec = tie.close (tie.spec returns persons-requires bit64-requires returns-2)

@@ -1,12 +1,9 @@
 -- `past::past_over` goes over 64 folders: before each turn it holds what the person did on the folders below the one reached, whose read
 -- and write are bits of the two words, and whose steps are a bit of the set of the folders stepped on.
-use Prim.Native.Nat.{ℕ, _+_, _-_, _%_, _≤_, _<_}
+use Prim.Native.Nat.{_+_, _-_, _≤_, _<_}
 use native.Mathlib.Omega.{arith}
-use mathlib.Core.Path.{_≡_, _∙_}
-use mathlib.Core.Bool.{Bool}
-use mathlib.Core.List.{List}
-use Rattle.bits.specs.Bits.{bit, maskBelow}
-use Rattle.bits.proofs.Masks.{bit-mask-below}
+use mathlib.Core.Path.{_≡_}
+use Rattle.bits.proofs.Masks.{mask-test}
 use denote.Ref.{now}
 use borrow.Author.Needs.{needs}
 use Rattle.policy.specs.Request.{setOf, index}
@@ -31,13 +28,6 @@ Inv-loop t h s first stepped read wrote past₀ i₀ past i = (i ≤ 64) × (pas
 
 abbrev μ-loop : tie.MeasureT-loop
 μ-loop t h s first stepped read wrote past₀ i₀ past i = 64 - i
-
--- a folder's bit in the set of the folders stepped on
-stepped-here : (h : List ℕ) (s first i : ℕ) {set : ℕ} {b : Bool} → i < 64 → set ≡ maskBelow 64 (λ i. steppedAt h s (first + i))
-    → b ≡ bit set (i % 64) → b ≡ steppedAt h s (first + i)
-stepped-here h s first i l found test =
-    let own : i % 64 ≡ i = omega arith in
-    test ∙ rw (own, found) (bit-mask-below 64 (λ i. steppedAt h s (first + i)) i l)
 
 mul-word-at : tie.Need-mul-word-at Inv-loop μ-loop
 mul-word-at c =
@@ -122,7 +112,7 @@ past-after-requires c κs =
           (c .before .before .bit64 .ensures) (omega (arith, start .pre .3)),
       word-place (args .h .now) _ i _ (λ k. known .given k .fits) (omega arith) (writes .ensures)
           (c .before .bit642 .ensures) (omega (arith, start .pre .3)),
-      stepped-here (args .h .now) (args .s) (args .first) i (omega arith) (start .pre .5) (c .bit643 .ensures),
+      mask-test (λ i. steppedAt (args .h .now) (args .s) (args .first + i)) i (omega arith) (start .pre .5) (c .bit643 .ensures),
     )
 
 add-i : tie.Need-add-i Inv-loop μ-loop

@@ -7,7 +7,7 @@ use mathlib.Core.Bool.{Bool, cond}
 use mathlib.Core.List.{List}
 use borrow.Author.Needs.{needs}
 use Rattle.bits.specs.Bits.{bit, withBit, maskBelow}
-use Rattle.bits.proofs.Masks.{mask-start, mask-step, bit-mask-below}
+use Rattle.bits.proofs.Masks.{mask-start, mask-step, mask-test}
 use Rattle.past.specs.Turns.{steppedAt}
 use Rattle.past.proofs.steps.stepped_over.Statement.{statement}
 use Rattle.past.proofs.steps.stepped_over.Tie as tie
@@ -23,9 +23,8 @@ more : (h : List ℕ) (s first i : ℕ) {set steppers next : ℕ} {is : Bool} �
     → set ≡ maskBelow i (λ i. steppedAt h s (first + i)) → steppers ≡ maskBelow 64 (λ s. steppedAt h s (first + i))
     → is ≡ bit steppers (s % 64) → next ≡ cond is (withBit set (i % 64)) set → next ≡ maskBelow (i + 1) (λ i. steppedAt h s (first + i))
 more h s first i {is = is} ls li before found test turn =
-    let own : s % 64 ≡ s = omega arith in
     let place : i % 64 ≡ i = omega arith in
-    let stepped : is ≡ steppedAt h s (first + i) = test ∙ rw (own, found) (bit-mask-below 64 (λ s. steppedAt h s (first + i)) s ls) in
+    let stepped : is ≡ steppedAt h s (first + i) = mask-test (λ s. steppedAt h s (first + i)) s ls found test in
     mask-step i (λ i. steppedAt h s (first + i)) before (turn ∙ rw (place, stepped))
 
 loop-holds : tie.Need-loop-holds Inv-loop μ-loop
