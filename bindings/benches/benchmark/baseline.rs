@@ -12,10 +12,6 @@ fn at_most(a: u16, b: u16) -> bool {
     a >> 12 <= b >> 12 && a & b & 0xfff == a & 0xfff
 }
 
-fn meet(a: u16, b: u16) -> u16 {
-    (a >> 12).min(b >> 12) << 12 | (a & b & 0xfff)
-}
-
 fn bit(h: &[u8], i: usize) -> bool {
     h[i / 8] >> (i % 8) & 1 == 1
 }
