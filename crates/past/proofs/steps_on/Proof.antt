@@ -3,7 +3,7 @@ use mathlib.Core.Path.{sym, ap, _∙_}
 use mathlib.Core.Bool.{not}
 use borrow.Author.Tests.{eqb-true}
 use borrow.Author.Needs.{needs}
-use Rattle.past.proofs.TouchedLaws.{steps-none}
+use Rattle.past.proofs.StepLaws.{steps-none}
 use Rattle.past.proofs.steps_on.Statement.{statement}
 use Rattle.past.proofs.steps_on.Tie as tie
 
