@@ -1,4 +1,4 @@
-/* The access monitor of document 01, with Points 1 and 2 of document 02, for C. The functions are in libexports.a, which
+/* The access monitor of document 01, with Points 1 to 3 of document 02, for C. The functions are in libexports.a, which
  * `rt staticlib exports` writes.
  *
  * Bytes are lent as a pointer and a length. A pointer is never null, also where the length is 0, and points to as many readable bytes

@@ -9,6 +9,7 @@ mod plans;
 mod requests;
 mod scenes;
 mod steps;
+mod stretches;
 
 use crate::command::Command;
 use crate::history::HISTORY_BYTES;

@@ -1,22 +1,20 @@
 //! The committed files of calls are those of the fixed seed. They hold every
 //! published number of every call and every kind of record, and requests on
-//! which a wall that counts public folders or a low-water rule that passes
-//! steps would answer otherwise.
+//! which a wall that counts public folders, a low-water rule that passes steps
+//! or a level that skips reads would answer otherwise.
 
-use reference::command::{Command, Reader};
+#[path = "vectors/walk.rs"]
+mod walk;
+
+use reference::command::Command;
 use reference::generator::{calls, SEED};
 use reference::history::{set_of, History};
-use reference::play::{play, Player};
-use reference::request::{read_record, record_length};
+use reference::play::play;
 use reference::rules::{current_level, judge_request};
-use reference::{judge, load, run, standing, Request, Tables};
+use reference::{load, standing, Request, Tables};
 use std::collections::{BTreeMap, BTreeSet};
-use std::fs;
-
-fn committed(name: &str) -> Vec<u8> {
-    let folder = concat!(env!("CARGO_MANIFEST_DIR"), "/../crates/cases");
-    fs::read(format!("{folder}/{name}")).unwrap()
-}
+use std::ops::Range;
+use walk::{books, committed, each_command, each_judged, front};
 
 #[test]
 fn committed_files_equal_what_is_written() {
@@ -59,18 +57,6 @@ fn every_number_of_every_call() {
     }
     let published: BTreeSet<u8> = calls.into_iter().flat_map(|(_, numbers)| numbers).collect();
     assert_eq!(published, (0..=19).collect());
-}
-
-/// The books of a file of calls.
-fn books(calls: &[u8]) -> Vec<Vec<u8>> {
-    let mut reader = Reader { left: calls };
-    let mut found = Vec::new();
-    while let Some(command) = reader.command() {
-        if let Command::Load { book } = command {
-            found.push(book);
-        }
-    }
-    found
 }
 
 /// How many records of each kind a loaded book has.
@@ -119,64 +105,6 @@ fn every_kind_of_record_is_loaded_and_refused() {
     for (number, kinds) in expected {
         let found: Vec<u8> = refused[&number].iter().copied().collect();
         assert_eq!(found, kinds, "number {number}");
-    }
-}
-
-/// Shows every command with the player before it.
-fn each_command(calls: &[u8], mut look: impl FnMut(&Player, &Command)) {
-    let mut player = Player::new();
-    let mut reader = Reader { left: calls };
-    while let Some(command) = reader.command() {
-        look(&player, &command);
-        player.follow(&command);
-    }
-}
-
-/// The front part of the history buffer that a command names.
-fn front(player: &Player, named: u16) -> &[u8] {
-    &player.history[..usize::from(named).min(player.history.len())]
-}
-
-/// Shows every request that is judged, by judge, put or run, with the tables
-/// and the history before it.
-fn each_judged(calls: &[u8], mut look: impl FnMut(&Tables, &History, &Request)) {
-    each_command(calls, |player, command| match command {
-        Command::Judge { history, request } | Command::Put { history, request } => {
-            let bytes = front(player, *history);
-            // 10, 11 and 12 come before any rule.
-            if !(10..=12).contains(&judge(&player.tables, bytes, request)) {
-                let request = read_record(request).unwrap();
-                look(&player.tables, &set_of(bytes), &request);
-            }
-        }
-        Command::Run {
-            history,
-            answers,
-            requests,
-        } => {
-            let (tables, bytes) = (&player.tables, front(player, *history));
-            let mut room = vec![0; usize::from(*answers).min(player.answers.len())];
-            if run(tables, &mut bytes.to_vec(), requests, &mut room).number == 0 {
-                each_in_run(tables, set_of(bytes), requests, &mut look);
-            }
-        }
-        _ => {}
-    });
-}
-
-fn each_in_run(
-    tables: &Tables,
-    mut history: History,
-    requests: &[u8],
-    look: &mut impl FnMut(&Tables, &History, &Request),
-) {
-    let mut left = requests;
-    while let Some(request) = read_record(left) {
-        look(tables, &history, &request);
-        if judge_request(tables, &history, &request) == 0 {
-            history.insert(request);
-        }
-        left = &left[record_length(left[0]).unwrap()..];
     }
 }
 
@@ -230,24 +158,69 @@ fn the_wall_meets_public_folders() {
     assert!(passed >= 200 && rival_past >= 200 && same_firm_past >= 50);
 }
 
-/// What a reading takes a request of the past for.
-type Reading = fn(&Request) -> Option<Request>;
+/// What a reading takes the past for.
+type Reading = fn(&History) -> History;
+
+fn without(past: &History, left_out: impl Fn(&Request) -> bool) -> History {
+    let kept = past.iter().filter(|request| !left_out(request));
+    kept.copied().collect()
+}
+
+/// Whether a read is left out, by its person, its stretch, which are the eight
+/// folders of one byte, and its place in it.
+fn without_reads(past: &History, left_out: impl Fn(u8, u8, u8) -> bool) -> History {
+    without(past, |request| match *request {
+        Request::Read { person, folder } => left_out(person, folder / 8, folder % 8),
+        _ => false,
+    })
+}
+
+/// Whether a person read a folder of a stretch, at one of these places.
+fn has_read(past: &History, person: u8, stretch: u8, mut places: Range<u8>) -> bool {
+    places.any(|place| {
+        let folder = 8 * stretch + place;
+        past.contains(&Request::Read { person, folder })
+    })
+}
+
+/// Readings of the reads that look at too little.
+const SKIPS: [&str; 3] = [
+    "an empty stretch ends the walk",
+    "one folder of a stretch is looked at",
+    "the last stretch is left out",
+];
 
 /// Other readings of what lowers a level.
-const READINGS: [(&str, Reading); 4] = [
-    ("no step lowers", |past| match past {
-        Request::Step { .. } => None,
-        _ => Some(*past),
+const READINGS: [(&str, Reading); 7] = [
+    ("no step lowers", |past| {
+        without(past, |request| matches!(request, Request::Step { .. }))
     }),
-    ("step 0 does not lower", |past| match past {
-        Request::Step { step: 0, .. } => None,
-        _ => Some(*past),
+    ("step 0 does not lower", |past| {
+        without(past, |request| {
+            matches!(request, Request::Step { step: 0, .. })
+        })
     }),
-    ("writes lower too", |past| match *past {
-        Request::Write { person, folder } => Some(Request::Read { person, folder }),
-        _ => Some(*past),
+    ("writes lower too", |past| {
+        let as_read = |request: &Request| match *request {
+            Request::Write { person, folder } => Request::Read { person, folder },
+            other => other,
+        };
+        past.iter().map(as_read).collect()
     }),
-    ("the first level stays", |_| None),
+    ("the first level stays", |_| History::new()),
+    (SKIPS[0], |past| {
+        without_reads(past, |person, stretch, _| {
+            (0..stretch).any(|before| !has_read(past, person, before, 0..8))
+        })
+    }),
+    (SKIPS[1], |past| {
+        without_reads(past, |person, stretch, place| {
+            has_read(past, person, stretch, 0..place)
+        })
+    }),
+    (SKIPS[2], |past| {
+        without_reads(past, |_, stretch, _| stretch == 15)
+    }),
 ];
 
 /// The number when levels are worked out from another past: the wall before
@@ -273,7 +246,7 @@ fn count(
     differs: impl Fn(&History) -> bool,
 ) {
     for (name, reading) in READINGS {
-        let past = history.iter().filter_map(reading).collect();
+        let past = reading(history);
         if differs(&past) {
             found.entry((name, kind)).or_insert([0; 16])[usize::from(mask)] += 1;
         }
@@ -313,6 +286,10 @@ fn low_water_meets_steps() {
             assert!(found[&("no step lowers", kind)][mask] >= 1);
         }
     }
+    for name in SKIPS {
+        let otherwise = [17, 18, 19].map(|kind| found[&(name, kind)].iter().sum::<usize>());
+        assert!(otherwise.iter().sum::<usize>() >= 30, "{name}");
+    }
     let by_first_level = found[&("the first level stays", 19)];
     assert!(by_first_level.iter().sum::<usize>() >= 300);
 }
@@ -348,6 +325,9 @@ fn standings_meet_steps() {
         println!("if {name}: levels of standings otherwise, by mask: {masks:?}");
     }
     assert!(passed_over >= 100);
+    for name in SKIPS {
+        assert!(found[&(name, 0)].iter().sum::<usize>() >= 30, "{name}");
+    }
     assert!(found[&("no step lowers", 0)]
         .iter()
         .all(|count| *count >= 5));

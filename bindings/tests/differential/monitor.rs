@@ -59,10 +59,13 @@ pub enum Mutation {
     CreateDoesNotLower,
     StepsLowerInForceAlone,
     WritesLower,
+    EmptyByteEndsReads,
+    OneFolderOfAByte,
+    LastByteLeftOut,
 }
 
 impl Mutation {
-    pub const ALL: [Mutation; 18] = [
+    pub const ALL: [Mutation; 21] = [
         Mutation::BlankKeepsAByte,
         Mutation::OffsetOfNext,
         Mutation::RestOfRefused,
@@ -81,6 +84,9 @@ impl Mutation {
         Mutation::CreateDoesNotLower,
         Mutation::StepsLowerInForceAlone,
         Mutation::WritesLower,
+        Mutation::EmptyByteEndsReads,
+        Mutation::OneFolderOfAByte,
+        Mutation::LastByteLeftOut,
     ];
 }
 
@@ -125,8 +131,8 @@ impl Mutant {
 
     /// The number of a request that low-water refuses. For some mutations only
     /// the other rules are asked: about a step, always or where the first level
-    /// would do, and about any request where a level that fewer steps lower
-    /// would do.
+    /// would do, and about any request where a level that fewer steps or reads
+    /// lower would do.
     fn refused_by_level(&self, book: &[u8], history: &[u8], request: &[u8]) -> u8 {
         let step = request[0] == 19;
         let granted_from = |history: &[u8]| {
@@ -136,9 +142,11 @@ impl Mutant {
         let passes = match self.mutation {
             Mutation::StepPassesLowWater => step,
             Mutation::StepByFirstLevel => step && granted_from(&[0; HISTORY_BYTES]),
-            Mutation::StepsDoNotLower | Mutation::CreateDoesNotLower => {
-                granted_from(&self.past(book, history))
-            }
+            Mutation::StepsDoNotLower
+            | Mutation::CreateDoesNotLower
+            | Mutation::EmptyByteEndsReads
+            | Mutation::OneFolderOfAByte
+            | Mutation::LastByteLeftOut => granted_from(&self.past(book, history)),
             _ => false,
         };
         if !passes {
@@ -169,7 +177,27 @@ impl Mutant {
                 *read |= *written;
             }
         }
+        for reads in past[..1_024].chunks_exact_mut(16) {
+            self.skip_reads(reads);
+        }
         past
+    }
+
+    /// For some mutations not all reads of a person are looked at.
+    fn skip_reads(&self, reads: &mut [u8]) {
+        match self.mutation {
+            Mutation::EmptyByteEndsReads => {
+                let walked = reads.iter().take_while(|byte| **byte != 0).count();
+                reads[walked..].fill(0);
+            }
+            Mutation::OneFolderOfAByte => {
+                for byte in reads {
+                    *byte &= byte.wrapping_neg();
+                }
+            }
+            Mutation::LastByteLeftOut => reads[15] = 0,
+            _ => {}
+        }
     }
 }
 

@@ -22,6 +22,7 @@ impl Generator {
             self.too_few_answers();
         }
         self.long_runs();
+        self.few_stretches();
     }
 
     /// Lists of calls from blank, under every mask and in books of every size.

@@ -93,7 +93,7 @@ impl Generator {
     }
 
     /// No rule, all persons at the highest level and all folders at any.
-    fn book_of_levels(&mut self) -> Vec<u8> {
+    pub fn book_of_levels(&mut self) -> Vec<u8> {
         let mut book = vec![1, 0, 2, 0, 0];
         for person in 0..64 {
             book.extend([3, person, 255, 255]);
