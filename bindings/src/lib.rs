@@ -1,6 +1,6 @@
-//! The access monitor of document 01, with Points 1 (public folders) and 2 (a
-//! step alters the folder) of document 02, proved in Rattle and called from
-//! Rust.
+//! The access monitor of document 01, with Points 1 (public folders), 2 (a
+//! step alters the folder) and 3 (empty stretches skipped) of document 02,
+//! proved in Rattle and called from Rust.
 //!
 //! A call that needs the tables of a rulebook takes the bytes of the book and
 //! loads it. A refused book is answered with its number, 1 to 9 or 19. A call

@@ -1,5 +1,6 @@
-//! The part of the reads in plain Rust, over the same bytes: the best that we
-//! can write, and for comparison a walk that looks at every folder.
+//! The part of the reads in plain Rust, over the same bytes: the quickest that
+//! we can write for few reads, and for comparison a walk that looks at every
+//! folder, which is the quicker one where every bit is set.
 
 use crate::{Words, HISTORY_BYTES};
 

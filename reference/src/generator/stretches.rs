@@ -6,8 +6,8 @@ use super::Generator;
 impl Generator {
     /// Every person reads two folders of one stretch, four persons in each:
     /// the level of each tells which folders these were, first where low-water
-    /// is not in force and then by what it refuses. Then some histories that no
-    /// list leaves: one folder of each stretch, and all of them.
+    /// is not in force and then by what it refuses. Then bytes of some persons
+    /// set at once: one folder of each stretch, all of them, and none.
     pub fn few_stretches(&mut self) {
         let book = self.book_of_levels();
         self.load(&book);
