@@ -1,10 +1,10 @@
 //! The timed test of a level's part of the reads: with sixteen zero bytes it
 //! takes at most half the time that it takes with one bit in each byte. With one
-//! bit in two of the bytes it does too, which it would not if it looked at
-//! folders under the zero bytes beside these. The part is called alone: nothing
-//! is loaded, no step is looked at, and the tables are lent as they are packed.
-//! Prints what it measured; the exit status is not 0 if a level is wrong or one
-//! of the times is above a half.
+//! bit in two of the bytes, one in each half, it does too, which it would not
+//! if it looked at every folder of a half that is not zero. The part is called
+//! alone: nothing is loaded, no step is looked at, and the tables are lent as
+//! they are packed. Prints what it measured; the exit status is not 0 if a
+//! level is wrong or one of the times is above a half.
 
 mod plain;
 

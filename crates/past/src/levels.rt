@@ -45,7 +45,8 @@ fn level_over(t: &Words, set: u64, first: usize, before: Level) -> Level
     level
 }
 
-// The level after the folders that person s read. Their bits are two words of the history, and only folders whose bit is set are looked at.
+// The level after the folders that person s read. Their bits are two words of the history, and only folders whose bit is set are looked at
+// (document 02, Point 3). The crate `timed` hands it out for the timed test.
 pub fn level_by_reads(t: &Words, h: &[u8], s: usize, before: Level) -> Level
     requires { ⌜ (length (now h) ≡ historyBytes) × (s < 64) ⌝ }
     ensures { λ r. ⌜ r .0 ≡ levelBy (tablesOf (now (t .entry))) (readAt (now (h .entry)) s) (before .0) ⌝ }

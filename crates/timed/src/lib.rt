@@ -1,5 +1,5 @@
-// The part of the reads in a current level, for the timed test that document 02's Point 3 asks for: no load, no steps and no copy of the
-// tables, which are lent packed. It is no part of the library that others link.
+// The part of the reads in a current level, for the timed test that document 02's Point 3 asks for (bindings/benches/reads): no load, no
+// steps and no copy of the tables, which are lent packed. It is no part of the library that others link.
 ghost use mathlib.Core.Path.{_≡_};
 ghost use Rattle.timed.specs.Timed.{levelByReads};
 use level::Level;
