@@ -1,6 +1,6 @@
-/* The marked day of document 01 (P1): loads the printed book, runs its ten requests from a blank history and prints the answers. Then
- * a lobby with a public folder, a book that is refused with 19, and a post room whose steps lower. Exits with 1 if something else is
- * answered than stands here. */
+/* The marked day of document 01 (P1): loads the printed book, runs its ten requests from blank and prints the answers. Then a lobby with
+ * a public folder, a book that is refused with 19, a post room whose steps lower, the level that is then stored for its person, and a call
+ * that is answered 20. Exits with 1 if something else is answered than stands here. */
 #include "kweldabe.h"
 
 #include <stdio.h>
@@ -44,15 +44,16 @@ static const uint8_t steps[] = {19, 0, 5, 1, 17, 0, 0, 19, 0, 3, 2, 19, 0, 0, 1}
 static const uint8_t lowered[] = {0, 15, 15, 0};
 
 static uint8_t history[KWELDABE_HISTORY_BYTES];
+static uint8_t levels[KWELDABE_LEVELS_BYTES];
 static uint8_t answers[sizeof expected];
 
-/* Runs four requests from a blank history, and says whether the answers are these. */
+/* Runs four requests from blank, and says whether the answers are these. */
 static int answered(const char *name, const uint8_t *rules, size_t rules_length, const uint8_t *asked, size_t asked_length,
                     const uint8_t *numbers) {
-    if (kweldabe_blank(history, sizeof history) != 0) {
+    if (kweldabe_blank(rules, rules_length, history, sizeof history, levels, sizeof levels) != 0) {
         return 0;
     }
-    kweldabe_run(rules, rules_length, history, sizeof history, asked, asked_length, answers, 4);
+    kweldabe_run(rules, rules_length, history, sizeof history, levels, sizeof levels, asked, asked_length, answers, 4);
     printf("%s %u %u %u %u\n", name, (unsigned)answers[0], (unsigned)answers[1], (unsigned)answers[2], (unsigned)answers[3]);
     return memcmp(answers, numbers, 4) == 0;
 }
@@ -62,10 +63,27 @@ static int lobby_is_open(void) {
            kweldabe_load(undeclared, sizeof undeclared) == (2 << 8 | 19);
 }
 
+/* The level of a person in a standing. */
+static unsigned level_of(uint8_t person) {
+    const uint64_t standing = kweldabe_standing(post_room, sizeof post_room, history, sizeof history, levels, sizeof levels, person);
+    return (unsigned)(standing >> 8 & 0xffff);
+}
+
 /* The person's level is then that of folder 1. */
 static int steps_alter(void) {
-    return answered("post room", post_room, sizeof post_room, steps, sizeof steps, lowered) &&
-           (kweldabe_standing(post_room, sizeof post_room, history, sizeof history, 0) >> 8 & 0xffff) == 0x1001;
+    return answered("post room", post_room, sizeof post_room, steps, sizeof steps, lowered) && level_of(0) == 0x1001;
+}
+
+/* It is stored in the person's two bytes, the low one first. A level that the caller stores counts as it stands, and a call with levels of
+ * another length is answered 20. */
+static int levels_are_held(void) {
+    const unsigned stored = levels[0] | (unsigned)levels[1] << 8;
+    printf("stored level %u\n", stored);
+    levels[1] = 0x20;
+    const unsigned changed = level_of(0);
+    const uint8_t number = kweldabe_judge(post_room, sizeof post_room, history, sizeof history, levels, sizeof levels - 1, steps, 4);
+    printf("levels of 127 bytes %u\n", (unsigned)number);
+    return stored == 0x1001 && changed == 0x2001 && number == 20;
 }
 
 int main(void) {
@@ -74,15 +92,15 @@ int main(void) {
         printf("book %u at %llu\n", (unsigned)(loaded & 0xff), (unsigned long long)(loaded >> 8));
         return 1;
     }
-    if (kweldabe_blank(history, sizeof history) != 0) {
+    if (kweldabe_blank(book, sizeof book, history, sizeof history, levels, sizeof levels) != 0) {
         return 1;
     }
-    const uint64_t ran =
-        kweldabe_run(book, sizeof book, history, sizeof history, requests, sizeof requests, answers, sizeof answers);
+    const uint64_t ran = kweldabe_run(book, sizeof book, history, sizeof history, levels, sizeof levels,
+                                      requests, sizeof requests, answers, sizeof answers);
     for (size_t i = 0; i < sizeof answers; i++) {
         printf("%zu %u\n", i + 1, (unsigned)answers[i]);
     }
     printf("granted %u refused %u\n", (unsigned)(ran >> 8 & 0xffffff), (unsigned)(ran >> 32 & 0xffffff));
     const int same = memcmp(answers, expected, sizeof expected) == 0;
-    return same && ran == ((uint64_t)5 << 32 | 5 << 8) && lobby_is_open() && steps_alter() ? 0 : 1;
+    return same && ran == ((uint64_t)5 << 32 | 5 << 8) && lobby_is_open() && steps_alter() && levels_are_held() ? 0 : 1;
 }

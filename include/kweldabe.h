@@ -1,9 +1,9 @@
-/* The access monitor of document 01, with Points 1 to 3 of document 02, for C. The functions are in libexports.a, which
+/* The access monitor of document 01, with Points 1 to 4 of document 02, for C. The functions are in libexports.a, which
  * `rt staticlib exports` writes.
  *
  * Bytes are lent as a pointer and a length. A pointer is never null, also where the length is 0, and points to as many readable bytes
- * as the length says. What is lent for writing (history in blank, put and run; answers) overlaps nothing else that the call is lent.
- * Nobody else writes lent bytes during a call. Nothing is kept after it, and no function allocates or has state: threads may call at
+ * as the length says. What is lent for writing (history and levels in blank, put and run; answers) overlaps nothing else that the call is
+ * lent. Nobody else writes lent bytes during a call. Nothing is kept after it, and no function allocates or has state: threads may call at
  * once on different bytes.
  *
  * A call that needs the tables of a rulebook takes the bytes of the book and loads it. A refused book is answered with its number,
@@ -16,7 +16,13 @@
  *
  * A step alters its folder: low-water refuses it with 15 where it refuses a write, and a granted step lowers its person as a read does,
  * whatever rules are in force. So a person's current level is the meet of the first level and the levels of all folders that the person
- * has read or stepped on. */
+ * has read or stepped on.
+ *
+ * The levels are a second buffer, lent beside the history, that holds these levels ready: 128 bytes, the level of person s in two bytes
+ * at 2 * s, the low byte first. Blank sets them to the first levels, and to zero for undeclared persons. A granted read or step sets the
+ * person's entry to the meet of the stored entry and the folder's level, whatever rules are in force; nothing else writes them. Low-water
+ * and standing take the stored level: after a list of calls from blank it is the one that the history gives, and where somebody else
+ * wrote the levels or the history, it counts as it is stored. Levels of another length are answered 20, after 10. */
 #ifndef KWELDABE_H
 #define KWELDABE_H
 
@@ -30,8 +36,12 @@ extern "C" {
 /* The bytes of a history. */
 #define KWELDABE_HISTORY_BYTES 18944
 
-/* Makes a history all zero: 0 or 10. */
-uint8_t kweldabe_blank(uint8_t *history, size_t history_length);
+/* The bytes of the levels. */
+#define KWELDABE_LEVELS_BYTES 128
+
+/* Makes a history all zero and sets the levels to the first ones: 0, 10, 20, or the number of a refused book. */
+uint8_t kweldabe_blank(const uint8_t *book, size_t book_length, uint8_t *history, size_t history_length,
+                       uint8_t *levels, size_t levels_length);
 
 /* Loads a book: the number, 0 to 9 or 19, in bits 0 to 7; in bits 8 to 63 the offset of the end record or of the refused one. */
 uint64_t kweldabe_load(const uint8_t *book, size_t book_length);
@@ -41,21 +51,22 @@ size_t kweldabe_rest_length(const uint8_t *book, size_t book_length);
 
 /* The number of the request at the front of the bytes; nothing is recorded. */
 uint8_t kweldabe_judge(const uint8_t *book, size_t book_length, const uint8_t *history, size_t history_length,
-                       const uint8_t *request, size_t request_length);
+                       const uint8_t *levels, size_t levels_length, const uint8_t *request, size_t request_length);
 
-/* The same, and the request is recorded in the history if the number is 0. */
+/* The same, and if the number is 0 the request is recorded in the history, and in the levels where it lowers. */
 uint8_t kweldabe_put(const uint8_t *book, size_t book_length, uint8_t *history, size_t history_length,
-                     const uint8_t *request, size_t request_length);
+                     uint8_t *levels, size_t levels_length, const uint8_t *request, size_t request_length);
 
 /* Puts one request after another and writes one answer byte for each. The number is in bits 0 to 7, the granted requests in bits 8 to
  * 31 and the refused ones in bits 32 to 55, both modulo 2^24: with fewer than 2^24 request bytes they are exact. */
 uint64_t kweldabe_run(const uint8_t *book, size_t book_length, uint8_t *history, size_t history_length,
-                      const uint8_t *requests, size_t requests_length, uint8_t *answers, size_t answers_length);
+                      uint8_t *levels, size_t levels_length, const uint8_t *requests, size_t requests_length,
+                      uint8_t *answers, size_t answers_length);
 
-/* A person's standing: the number in bits 0 to 7, the current level in bits 8 to 23, the number of rights used in bits 24 to 31 and
+/* A person's standing: the number in bits 0 to 7, the stored level in bits 8 to 23, the number of rights used in bits 24 to 31 and
  * that of firms opened in bits 32 to 39. */
 uint64_t kweldabe_standing(const uint8_t *book, size_t book_length, const uint8_t *history, size_t history_length,
-                           uint8_t person);
+                           const uint8_t *levels, size_t levels_length, uint8_t person);
 
 #ifdef __cplusplus
 }

@@ -1,6 +1,6 @@
 //! The access monitor of document 01, with Points 1 (public folders), 2 (a
-//! step alters the folder) and 3 (empty stretches skipped) of document 02,
-//! proved in Rattle and called from Rust.
+//! step alters the folder), 3 (empty stretches skipped) and 4 (levels held
+//! ready) of document 02, proved in Rattle and called from Rust.
 //!
 //! A call that needs the tables of a rulebook takes the bytes of the book and
 //! loads it. A refused book is answered with its number, 1 to 9 or 19. A call
@@ -14,6 +14,13 @@
 //! Low-water refuses a step with 15 where it refuses a write, and a granted
 //! step lowers its person as a read does, whatever rules are in force.
 //!
+//! The levels lent beside the history hold each person's current level, that of
+//! person s in two bytes at 2 × s, the low byte first. Blank sets them to the
+//! first levels, and to zero for the undeclared; a granted read or step stores
+//! the meet of the person's stored level and the folder's level. Low-water and
+//! standing take the level stored, also where the history would give another. A
+//! call with levels of another length is answered 20, after 10.
+//!
 //! The exported functions ask nothing of their arguments but what slices of
 //! Rust always keep: pointers that are not null, lengths that are right, and
 //! no other use of what is lent for writing.
@@ -22,6 +29,9 @@ mod raw;
 
 /// The bytes of a history.
 pub const HISTORY_BYTES: usize = 18_944;
+
+/// The bytes of the levels.
+pub const LEVELS_BYTES: usize = 128;
 
 /// The most request bytes of one run: its counts cross the boundary in 24
 /// bits each, and a run has no more answers than request bytes.
@@ -62,9 +72,10 @@ fn field(packed: u64, place: u32, bits: u32) -> u64 {
     packed >> place & (u64::MAX >> (64 - bits))
 }
 
-/// Makes a history all zero: 0 or 10.
-pub fn blank(history: &mut [u8]) -> u8 {
-    raw::blank(history)
+/// Makes a history all zero and sets the levels to the first ones: 0, 10, 20, or
+/// the number of a refused book.
+pub fn blank(book: &[u8], history: &mut [u8], levels: &mut [u8]) -> u8 {
+    raw::blank(book, history, levels)
 }
 
 /// Loads a rulebook.
@@ -82,26 +93,28 @@ pub fn rest(book: &[u8]) -> &[u8] {
 }
 
 /// The number of the request at the front of the bytes; nothing is recorded.
-pub fn judge(book: &[u8], history: &[u8], request: &[u8]) -> u8 {
-    raw::judge(book, history, request)
+pub fn judge(book: &[u8], history: &[u8], levels: &[u8], request: &[u8]) -> u8 {
+    raw::judge(book, history, levels, request)
 }
 
-/// Judges, then records the request if it is granted.
-pub fn put(book: &[u8], history: &mut [u8], request: &[u8]) -> u8 {
-    raw::put(book, history, request)
+/// Judges, then records the request if it is granted: in the history, and in the
+/// levels if it is a read or a step.
+pub fn put(book: &[u8], history: &mut [u8], levels: &mut [u8], request: &[u8]) -> u8 {
+    raw::put(book, history, levels, request)
 }
 
 /// Puts one request after another and writes one answer byte for each.
 pub fn run(
     book: &[u8],
     history: &mut [u8],
+    levels: &mut [u8],
     requests: &[u8],
     answers: &mut [u8],
 ) -> Result<Ran, TooLong> {
     if requests.len() > MOST_REQUEST_BYTES {
         return Err(TooLong);
     }
-    let packed = raw::run(book, history, requests, answers);
+    let packed = raw::run(book, history, levels, requests, answers);
     Ok(Ran {
         number: field(packed, 0, 8) as u8,
         granted: field(packed, 8, 24) as usize,
@@ -109,9 +122,9 @@ pub fn run(
     })
 }
 
-/// A person's standing.
-pub fn standing(book: &[u8], history: &[u8], person: u8) -> Standing {
-    let packed = raw::standing(book, history, person);
+/// A person's standing, with the level that is stored.
+pub fn standing(book: &[u8], history: &[u8], levels: &[u8], person: u8) -> Standing {
+    let packed = raw::standing(book, history, levels, person);
     Standing {
         number: field(packed, 0, 8) as u8,
         level: field(packed, 8, 16) as u16,

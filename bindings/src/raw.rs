@@ -1,7 +1,14 @@
 //! The exported functions. A slice crosses as a pointer and a length.
 
 extern "C" {
-    fn kweldabe_blank(history: *mut u8, history_length: usize) -> u8;
+    fn kweldabe_blank(
+        book: *const u8,
+        book_length: usize,
+        history: *mut u8,
+        history_length: usize,
+        levels: *mut u8,
+        levels_length: usize,
+    ) -> u8;
     fn kweldabe_load(book: *const u8, book_length: usize) -> u64;
     fn kweldabe_rest_length(book: *const u8, book_length: usize) -> usize;
     fn kweldabe_judge(
@@ -9,6 +16,8 @@ extern "C" {
         book_length: usize,
         history: *const u8,
         history_length: usize,
+        levels: *const u8,
+        levels_length: usize,
         request: *const u8,
         request_length: usize,
     ) -> u8;
@@ -17,6 +26,8 @@ extern "C" {
         book_length: usize,
         history: *mut u8,
         history_length: usize,
+        levels: *mut u8,
+        levels_length: usize,
         request: *const u8,
         request_length: usize,
     ) -> u8;
@@ -25,6 +36,8 @@ extern "C" {
         book_length: usize,
         history: *mut u8,
         history_length: usize,
+        levels: *mut u8,
+        levels_length: usize,
         requests: *const u8,
         requests_length: usize,
         answers: *mut u8,
@@ -35,6 +48,8 @@ extern "C" {
         book_length: usize,
         history: *const u8,
         history_length: usize,
+        levels: *const u8,
+        levels_length: usize,
         person: u8,
     ) -> u64;
 }
@@ -44,8 +59,17 @@ extern "C" {
 // writing is lent by `&mut`, so nothing else reaches it during the call. The
 // functions keep no pointer, and they have no `requires`.
 
-pub fn blank(history: &mut [u8]) -> u8 {
-    unsafe { kweldabe_blank(history.as_mut_ptr(), history.len()) }
+pub fn blank(book: &[u8], history: &mut [u8], levels: &mut [u8]) -> u8 {
+    unsafe {
+        kweldabe_blank(
+            book.as_ptr(),
+            book.len(),
+            history.as_mut_ptr(),
+            history.len(),
+            levels.as_mut_ptr(),
+            levels.len(),
+        )
+    }
 }
 
 pub fn load(book: &[u8]) -> u64 {
@@ -56,39 +80,51 @@ pub fn rest_length(book: &[u8]) -> usize {
     unsafe { kweldabe_rest_length(book.as_ptr(), book.len()) }
 }
 
-pub fn judge(book: &[u8], history: &[u8], request: &[u8]) -> u8 {
+pub fn judge(book: &[u8], history: &[u8], levels: &[u8], request: &[u8]) -> u8 {
     unsafe {
         kweldabe_judge(
             book.as_ptr(),
             book.len(),
             history.as_ptr(),
             history.len(),
+            levels.as_ptr(),
+            levels.len(),
             request.as_ptr(),
             request.len(),
         )
     }
 }
 
-pub fn put(book: &[u8], history: &mut [u8], request: &[u8]) -> u8 {
+pub fn put(book: &[u8], history: &mut [u8], levels: &mut [u8], request: &[u8]) -> u8 {
     unsafe {
         kweldabe_put(
             book.as_ptr(),
             book.len(),
             history.as_mut_ptr(),
             history.len(),
+            levels.as_mut_ptr(),
+            levels.len(),
             request.as_ptr(),
             request.len(),
         )
     }
 }
 
-pub fn run(book: &[u8], history: &mut [u8], requests: &[u8], answers: &mut [u8]) -> u64 {
+pub fn run(
+    book: &[u8],
+    history: &mut [u8],
+    levels: &mut [u8],
+    requests: &[u8],
+    answers: &mut [u8],
+) -> u64 {
     unsafe {
         kweldabe_run(
             book.as_ptr(),
             book.len(),
             history.as_mut_ptr(),
             history.len(),
+            levels.as_mut_ptr(),
+            levels.len(),
             requests.as_ptr(),
             requests.len(),
             answers.as_mut_ptr(),
@@ -97,13 +133,15 @@ pub fn run(book: &[u8], history: &mut [u8], requests: &[u8], answers: &mut [u8])
     }
 }
 
-pub fn standing(book: &[u8], history: &[u8], person: u8) -> u64 {
+pub fn standing(book: &[u8], history: &[u8], levels: &[u8], person: u8) -> u64 {
     unsafe {
         kweldabe_standing(
             book.as_ptr(),
             book.len(),
             history.as_ptr(),
             history.len(),
+            levels.as_ptr(),
+            levels.len(),
             person,
         )
     }

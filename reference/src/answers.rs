@@ -1,8 +1,7 @@
 //! What the program `answers` prints (section "The program `answers`").
 
 use crate::book::{load, rest};
-use crate::calls::run;
-use crate::history::HISTORY_BYTES;
+use crate::buffers::Buffers;
 use crate::numbers::GRANTED;
 
 pub const INPUT_BYTES: usize = 65_536;
@@ -17,10 +16,10 @@ pub fn answers(input: &[u8]) -> String {
         return format!("book {} at {}\n", loaded.number, loaded.offset);
     }
     let requests = rest(input);
-    let mut history = vec![0; HISTORY_BYTES];
+    let mut buffers = Buffers::blank(&loaded.tables);
     // No request is shorter than a byte, so this many answers are enough.
     let mut numbers = vec![0; requests.len()];
-    let ran = run(&loaded.tables, &mut history, requests, &mut numbers);
+    let ran = buffers.run(&loaded.tables, requests, &mut numbers);
     let mut lines = String::new();
     for (place, number) in numbers[..ran.granted + ran.refused].iter().enumerate() {
         lines.push_str(&format!("{} {}\n", place + 1, number));

@@ -1,6 +1,13 @@
 //! The commands of a file of calls, written and read. The format is described
 //! in FORMAT.md.
 
+/// The lengths of the history and of the levels that a call is lent.
+#[derive(Clone, Copy, PartialEq, Eq, Debug)]
+pub struct Lengths {
+    pub history: u16,
+    pub levels: u8,
+}
+
 /// One command of a file of calls.
 #[derive(Clone, PartialEq, Eq, Debug)]
 pub enum Command {
@@ -8,23 +15,23 @@ pub enum Command {
         book: Vec<u8>,
     },
     Blank {
-        history: u16,
+        lent: Lengths,
     },
     Judge {
-        history: u16,
+        lent: Lengths,
         request: Vec<u8>,
     },
     Put {
-        history: u16,
+        lent: Lengths,
         request: Vec<u8>,
     },
     Run {
-        history: u16,
+        lent: Lengths,
         answers: u16,
         requests: Vec<u8>,
     },
     Standing {
-        history: u16,
+        lent: Lengths,
         person: u8,
     },
     Field {
@@ -39,62 +46,80 @@ pub enum Command {
     Fill {
         value: u8,
     },
+    LevelByte {
+        at: u8,
+        value: u8,
+    },
+}
+
+impl Lengths {
+    fn as_bytes(&self) -> [u8; 3] {
+        let [low, high] = self.history.to_le_bytes();
+        [low, high, self.levels]
+    }
 }
 
 impl Command {
+    fn code(&self) -> u8 {
+        match self {
+            Command::Load { .. } => 1,
+            Command::Blank { .. } => 2,
+            Command::Judge { .. } => 3,
+            Command::Put { .. } => 4,
+            Command::Run { .. } => 5,
+            Command::Standing { .. } => 6,
+            Command::Field { .. } => 7,
+            Command::Byte { .. } => 8,
+            Command::Fill { .. } => 9,
+            Command::LevelByte { .. } => 10,
+        }
+    }
+
     pub fn as_bytes(&self) -> Vec<u8> {
-        let mut bytes = Vec::new();
+        let mut bytes = vec![self.code()];
         match self {
             Command::Load { book } => {
-                bytes.push(1);
                 bytes.extend((book.len() as u16).to_le_bytes());
                 bytes.extend(book);
             }
-            Command::Blank { history } => {
-                bytes.push(2);
-                bytes.extend(history.to_le_bytes());
-            }
-            Command::Judge { history, request } | Command::Put { history, request } => {
-                bytes.push(match self {
-                    Command::Judge { .. } => 3,
-                    _ => 4,
-                });
-                bytes.extend(history.to_le_bytes());
+            Command::Blank { lent } => bytes.extend(lent.as_bytes()),
+            Command::Judge { lent, request } | Command::Put { lent, request } => {
+                bytes.extend(lent.as_bytes());
                 bytes.push(request.len() as u8);
                 bytes.extend(request);
             }
             Command::Run {
-                history,
+                lent,
                 answers,
                 requests,
             } => {
-                bytes.push(5);
-                bytes.extend(history.to_le_bytes());
+                bytes.extend(lent.as_bytes());
                 bytes.extend(answers.to_le_bytes());
                 bytes.extend((requests.len() as u16).to_le_bytes());
                 bytes.extend(requests);
             }
-            Command::Standing { history, person } => {
-                bytes.push(6);
-                bytes.extend(history.to_le_bytes());
+            Command::Standing { lent, person } => {
+                bytes.extend(lent.as_bytes());
                 bytes.push(*person);
             }
+            change => bytes.extend(change.fields_of_change()),
+        }
+        bytes
+    }
+
+    /// The fields of the commands that call nothing.
+    fn fields_of_change(&self) -> Vec<u8> {
+        match self {
             Command::Field {
                 which,
                 index,
                 value,
-            } => {
-                bytes.extend([7, *which, *index]);
-                bytes.extend(value.to_le_bytes());
-            }
-            Command::Byte { at, value } => {
-                bytes.push(8);
-                bytes.extend(at.to_le_bytes());
-                bytes.push(*value);
-            }
-            Command::Fill { value } => bytes.extend([9, *value]),
+            } => [&[*which, *index][..], &value.to_le_bytes()].concat(),
+            Command::Byte { at, value } => [&at.to_le_bytes()[..], &[*value]].concat(),
+            Command::Fill { value } => vec![*value],
+            Command::LevelByte { at, value } => vec![*at, *value],
+            _ => Vec::new(),
         }
-        bytes
     }
 }
 
@@ -132,41 +157,59 @@ impl Reader<'_> {
         Some(self.number(2)? as u16)
     }
 
+    fn lengths(&mut self) -> Option<Lengths> {
+        Some(Lengths {
+            history: self.two()?,
+            levels: self.one()?,
+        })
+    }
+
+    /// Bytes after their length in one byte.
+    fn request(&mut self) -> Option<Vec<u8>> {
+        let length = self.one()?;
+        self.bytes(usize::from(length))
+    }
+
+    /// Bytes after their length in two bytes.
+    fn long_bytes(&mut self) -> Option<Vec<u8>> {
+        let length = self.two()?;
+        self.bytes(usize::from(length))
+    }
+
     /// The next command; None at 0, at an unknown command or at the end.
     pub fn command(&mut self) -> Option<Command> {
-        match self.one()? {
-            1 => {
-                let length = self.two()?;
-                Some(Command::Load {
-                    book: self.bytes(usize::from(length))?,
-                })
-            }
-            2 => Some(Command::Blank {
-                history: self.two()?,
-            }),
-            3 => {
-                let (history, length) = (self.two()?, self.one()?);
-                let request = self.bytes(usize::from(length))?;
-                Some(Command::Judge { history, request })
-            }
-            4 => {
-                let (history, length) = (self.two()?, self.one()?);
-                let request = self.bytes(usize::from(length))?;
-                Some(Command::Put { history, request })
-            }
-            5 => {
-                let (history, answers, length) = (self.two()?, self.two()?, self.two()?);
-                let requests = self.bytes(usize::from(length))?;
-                Some(Command::Run {
-                    history,
-                    answers,
-                    requests,
-                })
-            }
-            6 => Some(Command::Standing {
-                history: self.two()?,
+        let command = match self.one()? {
+            1 => Command::Load {
+                book: self.long_bytes()?,
+            },
+            2 => Command::Blank {
+                lent: self.lengths()?,
+            },
+            3 => Command::Judge {
+                lent: self.lengths()?,
+                request: self.request()?,
+            },
+            4 => Command::Put {
+                lent: self.lengths()?,
+                request: self.request()?,
+            },
+            5 => Command::Run {
+                lent: self.lengths()?,
+                answers: self.two()?,
+                requests: self.long_bytes()?,
+            },
+            6 => Command::Standing {
+                lent: self.lengths()?,
                 person: self.one()?,
-            }),
+            },
+            other => return self.change(other),
+        };
+        Some(command)
+    }
+
+    /// The commands that call nothing and print nothing.
+    fn change(&mut self, code: u8) -> Option<Command> {
+        match code {
             7 => Some(Command::Field {
                 which: self.one()?,
                 index: self.one()?,
@@ -177,6 +220,10 @@ impl Reader<'_> {
                 value: self.one()?,
             }),
             9 => Some(Command::Fill { value: self.one()? }),
+            10 => Some(Command::LevelByte {
+                at: self.one()?,
+                value: self.one()?,
+            }),
             _ => None,
         }
     }
@@ -186,41 +233,61 @@ impl Reader<'_> {
 mod tests {
     use super::*;
 
-    #[test]
-    fn commands_are_read_as_written() {
-        let commands = [
+    fn lent(history: u16, levels: u8) -> Lengths {
+        Lengths { history, levels }
+    }
+
+    /// The commands 1 to 6.
+    fn some_calls() -> Vec<Command> {
+        vec![
             Command::Load {
                 book: vec![1, 0, 0],
             },
-            Command::Blank { history: 18_944 },
+            Command::Blank {
+                lent: lent(18_944, 128),
+            },
             Command::Judge {
-                history: 1,
+                lent: lent(1, 255),
                 request: vec![],
             },
             Command::Put {
-                history: 65_535,
+                lent: lent(65_535, 0),
                 request: vec![16, 1, 2],
             },
+            Command::Run {
+                lent: lent(18_960, 144),
+                answers: 4_097,
+                requests: vec![17; 300],
+            },
             Command::Standing {
-                history: 300,
+                lent: lent(300, 7),
                 person: 200,
             },
-            Command::Field {
-                which: 10,
-                index: 3,
-                value: u64::MAX - 1,
-            },
-            Command::Byte {
-                at: 40_000,
-                value: 9,
-            },
-            Command::Fill { value: 7 },
-        ];
-        for command in commands {
+        ]
+    }
+
+    #[test]
+    fn commands_are_read_as_written() {
+        let mut commands = some_calls();
+        commands.push(Command::Field {
+            which: 10,
+            index: 3,
+            value: u64::MAX - 1,
+        });
+        commands.push(Command::Byte {
+            at: 40_000,
+            value: 9,
+        });
+        commands.push(Command::Fill { value: 7 });
+        commands.push(Command::LevelByte { at: 200, value: 3 });
+        for (place, command) in commands.into_iter().enumerate() {
             let bytes = command.as_bytes();
+            assert_eq!(usize::from(bytes[0]), 1 + place);
             let mut reader = Reader { left: &bytes };
             assert_eq!(reader.command(), Some(command));
             assert!(reader.left.is_empty());
         }
+        let mut unknown = Reader { left: &[11, 0, 0] };
+        assert_eq!(unknown.command(), None);
     }
 }

@@ -3,6 +3,7 @@
 
 mod altered;
 mod books;
+mod held;
 mod lengths;
 mod marks;
 mod plans;
@@ -11,8 +12,9 @@ mod scenes;
 mod steps;
 mod stretches;
 
-use crate::command::Command;
+use crate::command::{Command, Lengths};
 use crate::history::HISTORY_BYTES;
+use crate::levels::LEVELS_BYTES;
 use crate::play::Player;
 use crate::random::Random;
 use plans::Plan;
@@ -20,13 +22,18 @@ use plans::Plan;
 /// The seed of the committed files.
 pub const SEED: u64 = 1;
 
-/// The usual history length.
-const WHOLE: u16 = HISTORY_BYTES as u16;
+/// The usual lengths.
+const WHOLE: Lengths = Lengths {
+    history: HISTORY_BYTES as u16,
+    levels: LEVELS_BYTES as u8,
+};
 
 pub struct Generator {
     random: Random,
     player: Player,
     calls: Vec<u8>,
+    /// How many scenes of lists there were.
+    lists: usize,
 }
 
 /// The file of calls for a seed.
@@ -35,6 +42,7 @@ pub fn calls(seed: u64) -> Vec<u8> {
         random: Random::new(seed),
         player: Player::new(),
         calls: Vec::new(),
+        lists: 0,
     };
     generator.all_scenes();
     generator.calls.push(0);
@@ -54,26 +62,26 @@ impl Generator {
     }
 
     fn blank(&mut self) {
-        self.send(Command::Blank { history: WHOLE });
+        self.send(Command::Blank { lent: WHOLE });
     }
 
     fn judge(&mut self, request: &[u8]) {
         self.send(Command::Judge {
-            history: WHOLE,
+            lent: WHOLE,
             request: request.to_vec(),
         });
     }
 
     fn put(&mut self, request: &[u8]) {
         self.send(Command::Put {
-            history: WHOLE,
+            lent: WHOLE,
             request: request.to_vec(),
         });
     }
 
     fn run(&mut self, answers: usize, requests: &[u8]) {
         self.send(Command::Run {
-            history: WHOLE,
+            lent: WHOLE,
             answers: answers as u16,
             requests: requests.to_vec(),
         });
@@ -81,7 +89,7 @@ impl Generator {
 
     fn standing(&mut self, person: u8) {
         self.send(Command::Standing {
-            history: WHOLE,
+            lent: WHOLE,
             person,
         });
     }
@@ -105,7 +113,20 @@ impl Generator {
         self.send(Command::Fill { value });
     }
 
-    /// Loads a good book of a plan and blanks the history.
+    fn level_byte(&mut self, at: usize, value: u8) {
+        self.send(Command::LevelByte {
+            at: at as u8,
+            value,
+        });
+    }
+
+    /// Whether the next scene of a list stores other levels: three of five do.
+    fn next_has_other_levels(&mut self) -> bool {
+        self.lists += 1;
+        [1, 3, 4].contains(&(self.lists % 5))
+    }
+
+    /// Loads a good book of a plan and blanks history and levels.
     fn begin(&mut self, plan: &Plan) {
         let book = books::good_book(&mut self.random, plan);
         self.load(&book);

@@ -1,17 +1,20 @@
 //! A second reckoning of the shared-office access monitor, written from the
 //! papers alone. It follows the sections "Rulebook", "History", "Levels",
 //! "Four rules" and "Requests and calls" word by word, and Points 1 (public
-//! folders) and 2 (a step alters the folder) of the later requests, with sets
-//! of requests and plain loops, so that a reader can check it by hand.
+//! folders), 2 (a step alters the folder) and 4 (levels held ready) of the later
+//! requests, with sets of requests and plain loops, so that a reader can check
+//! it by hand.
 
 pub mod answers;
 pub mod book;
+pub mod buffers;
 pub mod calls;
 pub mod command;
 pub mod fields;
 pub mod generator;
 pub mod history;
 pub mod level;
+pub mod levels;
 pub mod marked;
 pub mod numbers;
 pub mod places;
@@ -19,10 +22,13 @@ pub mod play;
 pub mod random;
 pub mod request;
 pub mod rules;
+pub mod state;
 pub mod tables;
 
 pub use book::{load, rest, Loaded};
+pub use buffers::Buffers;
 pub use calls::{blank, judge, put, run, standing, Ran, Standing};
 pub use level::Level;
 pub use request::Request;
+pub use state::State;
 pub use tables::{given, Tables};

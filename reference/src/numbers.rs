@@ -1,5 +1,5 @@
-//! The published numbers (the table in "Requests and calls", and Point 1 of
-//! the later requests for 19).
+//! The published numbers (the table in "Requests and calls", and of the later
+//! requests Point 1 for 19 and Point 4 for 20).
 
 /// Granted, loaded, blanked, run: the call did what was asked.
 pub const GRANTED: u8 = 0;
@@ -41,3 +41,5 @@ pub const PIPELINE: u8 = 17;
 pub const ANSWERS_SHORT: u8 = 18;
 /// Kind 7 names a folder not declared earlier.
 pub const FOLDER_UNDECLARED: u8 = 19;
+/// Level buffer not 128 bytes.
+pub const LEVELS_LENGTH: u8 = 20;

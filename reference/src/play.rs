@@ -3,14 +3,16 @@
 
 use crate::book::{load, rest};
 use crate::calls::{blank, judge, put, run, standing};
-use crate::command::{Command, Reader};
+use crate::command::{Command, Lengths, Reader};
 use crate::fields::{digest, set_field, table_bytes};
 use crate::numbers::GRANTED;
 use crate::tables::Tables;
 use std::collections::BTreeMap;
 
-/// The history buffer is a little longer than a history.
+/// The history buffer is a little longer than a history, and the level buffer
+/// than the levels.
 pub const HISTORY_BUFFER: usize = 18_960;
+pub const LEVEL_BUFFER: usize = 144;
 pub const ANSWER_BUFFER: usize = 4_096;
 
 /// How often each call gave each number; answers inside runs are counted
@@ -21,6 +23,7 @@ pub type Tally = BTreeMap<(&'static str, u8), usize>;
 pub struct Player {
     pub tables: Tables,
     pub history: Vec<u8>,
+    pub levels: Vec<u8>,
     pub answers: Vec<u8>,
     pub text: String,
     pub tally: Tally,
@@ -31,6 +34,7 @@ impl Player {
         Player {
             tables: Tables::empty_book(),
             history: vec![0; HISTORY_BUFFER],
+            levels: vec![0; LEVEL_BUFFER],
             answers: vec![0; ANSWER_BUFFER],
             text: String::new(),
             tally: Tally::new(),
@@ -40,15 +44,15 @@ impl Player {
     pub fn follow(&mut self, command: &Command) {
         match command {
             Command::Load { book } => self.load(book),
-            Command::Blank { history } => self.blank(*history),
-            Command::Judge { history, request } => self.judge(*history, request),
-            Command::Put { history, request } => self.put(*history, request),
+            Command::Blank { lent } => self.blank(lent),
+            Command::Judge { lent, request } => self.judge(lent, request),
+            Command::Put { lent, request } => self.put(lent, request),
             Command::Run {
-                history,
+                lent,
                 answers,
                 requests,
-            } => self.run(*history, *answers, requests),
-            Command::Standing { history, person } => self.standing(*history, *person),
+            } => self.run(lent, *answers, requests),
+            Command::Standing { lent, person } => self.standing(lent, *person),
             Command::Field {
                 which,
                 index,
@@ -58,6 +62,9 @@ impl Player {
                 self.history[usize::from(*at) % HISTORY_BUFFER] = *value;
             }
             Command::Fill { value } => self.answers.fill(*value),
+            Command::LevelByte { at, value } => {
+                self.levels[usize::from(*at) % LEVEL_BUFFER] = *value;
+            }
         }
     }
 
@@ -74,36 +81,49 @@ impl Player {
         ));
     }
 
-    fn blank(&mut self, history: u16) {
-        let front = front_length(history, HISTORY_BUFFER);
-        let number = blank(&mut self.history[..front]);
-        self.count("blank", number);
-        self.print(format!("blank {} {}", number, digest(&self.history)));
+    /// The tables and the front parts of the buffers that a call is lent.
+    fn lend(&mut self, lent: &Lengths) -> (&Tables, &mut [u8], &mut [u8]) {
+        let history = front_length(lent.history, HISTORY_BUFFER);
+        let levels = front_length(u16::from(lent.levels), LEVEL_BUFFER);
+        (
+            &self.tables,
+            &mut self.history[..history],
+            &mut self.levels[..levels],
+        )
     }
 
-    fn judge(&mut self, history: u16, request: &[u8]) {
-        let front = front_length(history, HISTORY_BUFFER);
-        let number = judge(&self.tables, &self.history[..front], request);
+    /// The digests of the history buffer and of the level buffer.
+    fn digests(&self) -> String {
+        format!("{} {}", digest(&self.history), digest(&self.levels))
+    }
+
+    fn blank(&mut self, lent: &Lengths) {
+        let (tables, history, levels) = self.lend(lent);
+        let number = blank(tables, history, levels);
+        self.count("blank", number);
+        self.print(format!("blank {} {}", number, self.digests()));
+    }
+
+    fn judge(&mut self, lent: &Lengths, request: &[u8]) {
+        let (tables, history, levels) = self.lend(lent);
+        let number = judge(tables, history, levels, request);
         self.count("judge", number);
         self.print(format!("judge {}", number));
     }
 
-    fn put(&mut self, history: u16, request: &[u8]) {
-        let front = front_length(history, HISTORY_BUFFER);
-        let number = put(&self.tables, &mut self.history[..front], request);
+    fn put(&mut self, lent: &Lengths, request: &[u8]) {
+        let (tables, history, levels) = self.lend(lent);
+        let number = put(tables, history, levels, request);
         self.count("put", number);
-        self.print(format!("put {} {}", number, digest(&self.history)));
+        self.print(format!("put {} {}", number, self.digests()));
     }
 
-    fn run(&mut self, history: u16, answers: u16, requests: &[u8]) {
-        let front = front_length(history, HISTORY_BUFFER);
-        let answer_front = front_length(answers, ANSWER_BUFFER);
-        let ran = run(
-            &self.tables,
-            &mut self.history[..front],
-            requests,
-            &mut self.answers[..answer_front],
-        );
+    fn run(&mut self, lent: &Lengths, answers: u16, requests: &[u8]) {
+        let mut answer_bytes = std::mem::take(&mut self.answers);
+        let room = &mut answer_bytes[..front_length(answers, ANSWER_BUFFER)];
+        let (tables, history, levels) = self.lend(lent);
+        let ran = run(tables, history, levels, requests, room);
+        self.answers = answer_bytes;
         self.count("run", ran.number);
         if ran.number == GRANTED {
             for place in 0..ran.granted + ran.refused {
@@ -115,14 +135,14 @@ impl Player {
             ran.number,
             ran.granted,
             ran.refused,
-            digest(&self.history),
+            self.digests(),
             digest(&self.answers)
         ));
     }
 
-    fn standing(&mut self, history: u16, person: u8) {
-        let front = front_length(history, HISTORY_BUFFER);
-        let found = standing(&self.tables, &self.history[..front], person);
+    fn standing(&mut self, lent: &Lengths, person: u8) {
+        let (tables, history, levels) = self.lend(lent);
+        let found = standing(tables, history, levels, person);
         self.count("standing", found.number);
         self.print(format!(
             "standing {} {} {} {}",
@@ -168,7 +188,10 @@ mod tests {
     #[test]
     fn a_command_cut_short_ends_the_play() {
         let command = Command::Run {
-            history: 18_944,
+            lent: Lengths {
+                history: 18_944,
+                levels: 128,
+            },
             answers: 5,
             requests: vec![16, 0, 0],
         };
@@ -177,6 +200,18 @@ mod tests {
         for length in 0..bytes.len() {
             assert_eq!(play(&bytes[..length]).text, "");
         }
-        assert_eq!(play(&[0, 2, 0, 74]).text, "");
+        assert_eq!(play(&[0, 2, 0, 74, 128]).text, "");
+        assert_eq!(play(&[11, 2, 0, 74, 128]).text, "");
+    }
+
+    #[test]
+    fn named_lengths_and_places_past_the_level_buffer() {
+        // A blank of 255 bytes, taken as 144, and bytes 3, 4 and 144 + 4.
+        let calls = [2, 0, 74, 255, 10, 3, 9, 10, 4, 8, 10, 148, 7];
+        let player = play(&calls);
+        assert_eq!(player.tally, Tally::from([(("blank", 20), 1)]));
+        let mut expected = vec![0; LEVEL_BUFFER];
+        (expected[3], expected[4]) = (9, 7);
+        assert_eq!(player.levels, expected);
     }
 }

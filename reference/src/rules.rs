@@ -1,24 +1,27 @@
 //! The four rules (section "Four rules", and of the later requests Point 1 for
-//! public folders and Point 2 for steps that alter) and what they look at. Each
-//! rule is asked about a request whose parties are declared.
+//! public folders, Point 2 for steps that alter and Point 4 for levels held
+//! ready) and what they look at. Each rule is asked about a request whose
+//! parties are declared.
 
 use crate::history::{counted, History};
 use crate::level::Level;
 use crate::numbers::*;
 use crate::places::lies_in;
 use crate::request::Request;
+use crate::state::State;
 use crate::tables::{Tables, LOW_WATER_RULE, PIPELINE_RULE, ROLES_RULE, STEPS, WALL_RULE};
 use std::collections::BTreeSet;
 
 /// The checks 13 to 17, in this order; a rule not in force refuses nothing.
-pub fn judge_request(tables: &Tables, history: &History, request: &Request) -> u8 {
+pub fn judge_request(tables: &Tables, state: &State, request: &Request) -> u8 {
+    let history = &state.history;
     if !request.parties_declared(tables) || !request.step_in_range() {
         return UNDECLARED;
     }
     if tables.in_force(WALL_RULE) && !wall_grants(tables, history, request) {
         return WALL;
     }
-    if tables.in_force(LOW_WATER_RULE) && !low_water_grants(tables, history, request) {
+    if tables.in_force(LOW_WATER_RULE) && !low_water_grants(tables, state, request) {
         return LOW_WATER;
     }
     if tables.in_force(ROLES_RULE) && !roles_grant(tables, history, request) {
@@ -54,7 +57,8 @@ pub fn firms_opened(tables: &Tables, history: &History, person: u8) -> BTreeSet<
 }
 
 /// The meet of the first level and the levels of all folders that the person
-/// has read or stepped on, under every mask.
+/// has read or stepped on, under every mask. No rule asks for it: low-water and
+/// standing take the level stored, which is this one after a list from blank.
 pub fn current_level(tables: &Tables, history: &History, person: u8) -> Level {
     let mut level = tables.persons[usize::from(person)].level;
     for request in counted(tables, history) {
@@ -115,19 +119,17 @@ fn wall_grants(tables: &Tables, history: &History, request: &Request) -> bool {
     some_of_same_firm || all_in_another_class
 }
 
-/// Low-water: write and step need the folder's level at most the current level
+/// Low-water: write and step need the folder's level at most the stored level
 /// of the person, start needs the started person's at most the starter's. The
-/// current level is the one before the request.
-fn low_water_grants(tables: &Tables, history: &History, request: &Request) -> bool {
+/// stored level is the one before the request, also where the history would
+/// give another.
+fn low_water_grants(tables: &Tables, state: &State, request: &Request) -> bool {
     match *request {
         Request::Read { .. } => true,
-        Request::Write { person, folder } | Request::Step { person, folder, .. } => tables
-            .folder(folder)
-            .level
-            .at_most(&current_level(tables, history, person)),
-        Request::Start { person, other } => {
-            current_level(tables, history, other).at_most(&current_level(tables, history, person))
+        Request::Write { person, folder } | Request::Step { person, folder, .. } => {
+            tables.folder(folder).level.at_most(state.level(person))
         }
+        Request::Start { person, other } => state.level(other).at_most(state.level(person)),
     }
 }
 

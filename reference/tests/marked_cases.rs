@@ -4,16 +4,12 @@
 use reference::answers::answers;
 use reference::marked::{book_with_rights, ANSWERS, BOOK, PUBLIC_BOOK, PUBLIC_LISTS, REQUESTS};
 use reference::marked::{STEP_BOOK, STEP_REQUESTS};
-use reference::{blank, judge, load, put, rest, run, standing, Level, Tables};
+use reference::{blank, load, rest, Buffers, Level, Tables};
 use std::io::Write;
 use std::process::{Command, Stdio};
 
 const P1_TEXT: &str = "1 0\n2 14\n3 0\n4 15\n5 0\n6 17\n7 0\n8 0\n9 17\n10 13\n\
                        granted 5 refused 5\n";
-
-fn history() -> Vec<u8> {
-    vec![0; 18_944]
-}
 
 fn number_and_offset(book: &[u8]) -> (u8, usize) {
     let loaded = load(book);
@@ -65,28 +61,31 @@ fn the_longest_input_of_the_program() {
 #[test]
 fn p1_as_a_run_and_as_puts() {
     let tables = load(&BOOK).tables;
-    let (mut as_run, mut as_puts) = (history(), history());
+    let mut as_run = Buffers::blank(&tables);
+    let mut as_puts = as_run.clone();
     let mut numbers = [99; 12];
-    let ran = run(&tables, &mut as_run, &REQUESTS, &mut numbers);
+    let ran = as_run.run(&tables, &REQUESTS, &mut numbers);
     assert_eq!((ran.number, ran.granted, ran.refused), (0, 5, 5));
     assert_eq!(numbers[..10], ANSWERS);
     assert_eq!(numbers[10..], [99, 99]);
     let mut left = &REQUESTS[..];
     for number in ANSWERS {
-        assert_eq!(judge(&tables, &as_puts, left), number);
-        assert_eq!(put(&tables, &mut as_puts, left), number);
+        assert_eq!(as_puts.judge(&tables, left), number);
+        assert_eq!(as_puts.put(&tables, left), number);
         left = &left[if left[0] == 19 { 4 } else { 3 }..];
     }
     assert_eq!(as_run, as_puts);
     // Read 0 2, write 0 0, start 0 1, step 1 0 2 and step 1 1 2.
-    let mut expected = history();
+    let mut expected = Buffers::filled(0);
     for place in [2, 8192, 16385, 20480 + 64 * 32 + 1, 20480 + 64 * 33 + 1] {
-        expected[place / 8] += 1 << (place % 8);
+        expected.history[place / 8] += 1 << (place % 8);
     }
+    // Both persons are at 0x1001.
+    expected.levels[..4].copy_from_slice(&[1, 16, 1, 16]);
     assert_eq!(as_run, expected);
-    let found = standing(&tables, &as_run, 0);
+    let found = as_run.standing(&tables, 0);
     assert_eq!((found.level, found.rights, found.firms), (0x1001, 3, 2));
-    let found = standing(&tables, &as_run, 1);
+    let found = as_run.standing(&tables, 1);
     assert_eq!((found.level, found.rights, found.firms), (0x1001, 2, 1));
 }
 
@@ -131,13 +130,13 @@ fn p8_started_after_two_reads() {
         1, 2, 2, 0, 0, 3, 0, 3, 16, 3, 1, 0, 16, 4, 0, 0, 0, 1, 16, 4, 1, 0, 0, 2, 16, 0,
     ];
     let tables = load(&book).tables;
-    let mut bytes = history();
-    assert_eq!(judge(&tables, &bytes, &[18, 1, 0]), 15);
-    assert_eq!(put(&tables, &mut bytes, &[16, 0, 0]), 0);
-    assert_eq!(judge(&tables, &bytes, &[18, 1, 0]), 15);
-    assert_eq!(put(&tables, &mut bytes, &[16, 0, 1]), 0);
-    assert_eq!(judge(&tables, &bytes, &[18, 1, 0]), 0);
-    assert_eq!(standing(&tables, &bytes, 0).level, 0x1000);
+    let mut lent = Buffers::blank(&tables);
+    assert_eq!(lent.judge(&tables, &[18, 1, 0]), 15);
+    assert_eq!(lent.put(&tables, &[16, 0, 0]), 0);
+    assert_eq!(lent.judge(&tables, &[18, 1, 0]), 15);
+    assert_eq!(lent.put(&tables, &[16, 0, 1]), 0);
+    assert_eq!(lent.judge(&tables, &[18, 1, 0]), 0);
+    assert_eq!(lent.standing(&tables, 0).level, 0x1000);
 }
 
 #[test]
@@ -147,22 +146,23 @@ fn p9_two_rival_firms() {
         0, 0, 0, 0,
     ];
     let tables = load(&book).tables;
-    let mut bytes = history();
-    bytes[0] = 3;
-    assert_eq!(judge(&tables, &bytes, &[16, 0, 0]), 0);
-    assert_eq!(judge(&tables, &bytes, &[16, 0, 1]), 0);
-    assert_eq!(judge(&tables, &bytes, &[16, 0, 2]), 14);
+    let mut lent = Buffers::blank(&tables);
+    lent.history[0] = 3;
+    assert_eq!(lent.judge(&tables, &[16, 0, 0]), 0);
+    assert_eq!(lent.judge(&tables, &[16, 0, 1]), 0);
+    assert_eq!(lent.judge(&tables, &[16, 0, 2]), 14);
 }
 
 #[test]
 fn p10_roles_before_pipeline() {
     let tables = load(&book_with_rights([3, 0, 3, 0, 1, 0, 3, 0])).tables;
-    let mut bytes = history();
-    assert_eq!(blank(&mut bytes), 0);
-    assert_eq!(put(&tables, &mut bytes, &[19, 1, 2, 2]), 16);
+    let mut lent = Buffers::filled(0xa5);
+    let number = blank(&tables, &mut lent.history, &mut lent.levels);
+    assert_eq!(number, 0);
+    assert_eq!(lent.put(&tables, &[19, 1, 2, 2]), 16);
     let tables = load(&BOOK).tables;
-    assert_eq!(put(&tables, &mut bytes, &[19, 1, 2, 2]), 17);
-    assert_eq!(bytes, history());
+    assert_eq!(lent.put(&tables, &[19, 1, 2, 2]), 17);
+    assert_eq!(lent, Buffers::blank(&tables));
 }
 
 #[test]
@@ -174,9 +174,9 @@ fn a_public_folder_of_a_rival() {
     for ((requests, numbers), text) in PUBLIC_LISTS.into_iter().zip(expected) {
         assert_eq!(program(&[&PUBLIC_BOOK[..], &requests].concat()), text);
         let tables = load(&PUBLIC_BOOK).tables;
-        let mut bytes = history();
+        let mut lent = Buffers::blank(&tables);
         for (record, number) in requests.chunks(3).zip(numbers) {
-            assert_eq!(put(&tables, &mut bytes, record), number);
+            assert_eq!(lent.put(&tables, record), number);
         }
     }
 }

@@ -3,11 +3,10 @@
 
 mod common;
 
-use common::{history, with_mask, NO_RUN};
+use common::{with_mask, NO_RUN};
 use reference::fields::set_field;
-use reference::history::{set_of, write_set};
 use reference::random::Random;
-use reference::{judge, load, put, run, standing, Ran, Request, Tables};
+use reference::{load, Buffers, Ran, Request, Tables};
 
 /// Three firms, the first two rivals, each with a public folder and one that
 /// is not: folders 0, 2, 4 and 1, 3, 5. Two persons.
@@ -41,24 +40,24 @@ fn accesses(person: u8, folder: u8) -> [Vec<u8>; 3] {
 }
 
 /// Puts records from a history and expects their numbers.
-fn expect_puts(tables: &Tables, bytes: &mut [u8], puts: &[(&[u8], u8)]) {
+fn expect_puts(tables: &Tables, lent: &mut Buffers, puts: &[(&[u8], u8)]) {
     for (place, (record, number)) in puts.iter().enumerate() {
-        assert_eq!(put(tables, bytes, record), *number, "{place}: {record:?}");
+        assert_eq!(lent.put(tables, record), *number, "{place}: {record:?}");
     }
 }
 
 #[test]
 fn the_wall_passes_every_access_of_a_public_folder() {
     let tables = lobbies(1);
-    let mut bytes = history();
-    expect_puts(&tables, &mut bytes, &[(&[16, 0, 1], 0)]);
+    let mut lent = Buffers::blank(&tables);
+    expect_puts(&tables, &mut lent, &[(&[16, 0, 1], 0)]);
     for folder in [0, 2, 4] {
         for record in accesses(0, folder) {
-            assert_eq!(judge(&tables, &bytes, &record), 0);
+            assert_eq!(lent.judge(&tables, &record), 0);
         }
     }
     for record in accesses(0, 3) {
-        assert_eq!(judge(&tables, &bytes, &record), 14);
+        assert_eq!(lent.judge(&tables, &record), 14);
     }
 }
 
@@ -68,14 +67,14 @@ fn public_folders_of_rivals_do_not_forbid() {
     // Each access alone, and all of them.
     let both: Vec<Vec<u8>> = [accesses(0, 0), accesses(0, 2)].concat();
     for opened in both.chunks(1).chain([&both[..]]) {
-        let mut bytes = history();
+        let mut lent = Buffers::blank(&tables);
         for record in opened {
-            assert_eq!(put(&tables, &mut bytes, record), 0);
+            assert_eq!(lent.put(&tables, record), 0);
         }
-        assert_eq!(judge(&tables, &bytes, &[16, 0, 1]), 0);
-        assert_eq!(judge(&tables, &bytes, &[17, 0, 3]), 0);
-        assert_eq!(put(&tables, &mut bytes, &[19, 0, 7, 3]), 0);
-        assert_eq!(judge(&tables, &bytes, &[16, 0, 1]), 14);
+        assert_eq!(lent.judge(&tables, &[16, 0, 1]), 0);
+        assert_eq!(lent.judge(&tables, &[17, 0, 3]), 0);
+        assert_eq!(lent.put(&tables, &[19, 0, 7, 3]), 0);
+        assert_eq!(lent.judge(&tables, &[16, 0, 1]), 14);
     }
 }
 
@@ -84,18 +83,18 @@ fn a_public_folder_of_the_same_firm_does_not_admit() {
     let tables = lobbies(1);
     for first in accesses(0, 1) {
         for lobby in accesses(0, 2) {
-            let mut bytes = history();
-            expect_puts(&tables, &mut bytes, &[(&first, 0), (&lobby, 0)]);
+            let mut lent = Buffers::blank(&tables);
+            expect_puts(&tables, &mut lent, &[(&first, 0), (&lobby, 0)]);
             for record in accesses(0, 3) {
-                assert_eq!(put(&tables, &mut bytes, &record), 14);
+                assert_eq!(lent.put(&tables, &record), 14);
             }
             // The firm opened first stays open, and so does another class.
             for record in [accesses(0, 1), accesses(0, 5)].concat() {
-                assert_eq!(put(&tables, &mut bytes, &record), 0);
+                assert_eq!(lent.put(&tables, &record), 0);
             }
             // The other person is free.
-            assert_eq!(put(&tables, &mut bytes, &[16, 1, 3]), 0);
-            assert_eq!(put(&tables, &mut bytes, &[16, 1, 1]), 14);
+            assert_eq!(lent.put(&tables, &[16, 1, 3]), 0);
+            assert_eq!(lent.put(&tables, &[16, 1, 1]), 14);
         }
     }
 }
@@ -105,36 +104,36 @@ fn a_public_folder_of_the_same_firm_does_not_admit() {
 #[test]
 fn histories_that_no_list_leaves() {
     let tables = lobbies(1);
-    let mut bytes = history();
+    let mut lent = Buffers::blank(&tables);
     // Read 0 0 and read 0 3.
-    bytes[0] = 0b1001;
-    assert_eq!(judge(&tables, &bytes, &[16, 0, 1]), 14);
-    assert_eq!(judge(&tables, &bytes, &[16, 0, 3]), 0);
+    lent.history[0] = 0b1001;
+    assert_eq!(lent.judge(&tables, &[16, 0, 1]), 14);
+    assert_eq!(lent.judge(&tables, &[16, 0, 3]), 0);
     // Both by folders that are not public.
-    bytes[0] = 0b1010;
-    assert_eq!(judge(&tables, &bytes, &[16, 0, 1]), 0);
-    assert_eq!(judge(&tables, &bytes, &[16, 0, 3]), 0);
+    lent.history[0] = 0b1010;
+    assert_eq!(lent.judge(&tables, &[16, 0, 1]), 0);
+    assert_eq!(lent.judge(&tables, &[16, 0, 3]), 0);
     // The bits of public folders are no bits of undeclared ones.
-    bytes[0] = 0b0101;
-    assert_eq!(standing(&tables, &bytes, 0).firms, 2);
+    lent.history[0] = 0b0101;
+    assert_eq!(lent.standing(&tables, 0).firms, 2);
 }
 
 #[test]
 fn standing_counts_the_firms_of_public_folders() {
     let tables = lobbies(1);
-    let mut bytes = history();
+    let mut lent = Buffers::blank(&tables);
     for (count, folder) in [0, 2, 4].into_iter().enumerate() {
-        assert_eq!(standing(&tables, &bytes, 0).firms, count);
-        assert_eq!(put(&tables, &mut bytes, &[16, 0, folder]), 0);
-        assert_eq!(put(&tables, &mut bytes, &[19, 0, 3, folder]), 0);
+        assert_eq!(lent.standing(&tables, 0).firms, count);
+        assert_eq!(lent.put(&tables, &[16, 0, folder]), 0);
+        assert_eq!(lent.put(&tables, &[19, 0, 3, folder]), 0);
     }
-    let found = standing(&tables, &bytes, 0);
+    let found = lent.standing(&tables, 0);
     // Read kind 0, and step 3.
     assert_eq!((found.number, found.level), (0, 0));
     assert_eq!((found.rights, found.firms), (2, 3));
     // A firm opened by both of its folders is one firm.
-    assert_eq!(put(&tables, &mut bytes, &[16, 0, 1]), 0);
-    assert_eq!(standing(&tables, &bytes, 0).firms, 3);
+    assert_eq!(lent.put(&tables, &[16, 0, 1]), 0);
+    assert_eq!(lent.standing(&tables, 0).firms, 3);
 }
 
 /// The marked book's tables with folder 2, of the lower level, public.
@@ -148,23 +147,23 @@ fn marked_public(mask: u8) -> Tables {
 fn a_public_folder_lowers_the_level() {
     for mask in [2, 3] {
         let tables = marked_public(mask);
-        let mut bytes = history();
+        let mut lent = Buffers::blank(&tables);
         expect_puts(
             &tables,
-            &mut bytes,
+            &mut lent,
             &[(&[17, 0, 0], 0), (&[18, 1, 0], 15), (&[16, 0, 2], 0)],
         );
-        assert_eq!(standing(&tables, &bytes, 0).level, 0x1001);
+        assert_eq!(lent.standing(&tables, 0).level, 0x1001);
         expect_puts(
             &tables,
-            &mut bytes,
+            &mut lent,
             &[(&[17, 0, 0], 15), (&[18, 1, 0], 0), (&[17, 0, 2], 0)],
         );
     }
     // A write to a public folder needs its level, too.
     let mut tables = marked_public(3);
     set_field(&mut tables, 12, 0, 1);
-    expect_puts(&tables, &mut history(), &[(&[17, 1, 0], 15)]);
+    expect_puts(&tables, &mut Buffers::blank(&tables), &[(&[17, 1, 0], 15)]);
 }
 
 #[test]
@@ -172,15 +171,15 @@ fn a_public_folder_uses_a_right() {
     // One role reads kinds 0 and 1, another writes them.
     for mask in [4, 5] {
         let mut tables = lobbies(mask);
-        expect_puts(&tables, &mut history(), &[(&[16, 0, 0], 16)]);
+        expect_puts(&tables, &mut Buffers::blank(&tables), &[(&[16, 0, 0], 16)]);
         for (role, rights) in [(0, 3), (1, 3 << 16)] {
             set_field(&mut tables, 9, role, 1);
             set_field(&mut tables, 10, role, rights);
         }
-        let mut bytes = history();
+        let mut lent = Buffers::blank(&tables);
         expect_puts(
             &tables,
-            &mut bytes,
+            &mut lent,
             &[
                 (&[19, 0, 0, 0], 16),
                 (&[16, 0, 0], 0),
@@ -198,10 +197,10 @@ fn a_public_folder_uses_a_right() {
 fn a_public_folder_takes_part_in_the_pipeline() {
     for mask in [8, 9] {
         let tables = lobbies(mask);
-        let mut bytes = history();
+        let mut lent = Buffers::blank(&tables);
         expect_puts(
             &tables,
-            &mut bytes,
+            &mut lent,
             &[
                 (&[19, 0, 1, 2], 17),
                 (&[19, 0, 0, 2], 0),
@@ -218,11 +217,11 @@ fn a_public_folder_takes_part_in_the_pipeline() {
 fn a_mark_of_an_undeclared_folder_is_refused_with_11() {
     let mut tables = lobbies(15);
     set_field(&mut tables, 12, 6, 1);
-    let mut bytes = vec![0xa5; 18_944];
+    let mut lent = Buffers::filled(0xa5);
     let mut answers = [7; 4];
-    assert_eq!(judge(&tables, &bytes, &[16, 0, 1]), 11);
-    assert_eq!(put(&tables, &mut bytes, &[16, 0, 1]), 11);
-    let ran = run(&tables, &mut bytes, &[16, 0, 1], &mut answers);
+    assert_eq!(lent.judge(&tables, &[16, 0, 1]), 11);
+    assert_eq!(lent.put(&tables, &[16, 0, 1]), 11);
+    let ran = lent.run(&tables, &[16, 0, 1], &mut answers);
     assert_eq!(
         ran,
         Ran {
@@ -230,15 +229,15 @@ fn a_mark_of_an_undeclared_folder_is_refused_with_11() {
             ..NO_RUN
         }
     );
-    assert_eq!(standing(&tables, &bytes, 0).number, 11);
-    assert!(bytes.iter().all(|byte| *byte == 0xa5));
+    assert_eq!(lent.standing(&tables, 0).number, 11);
+    assert_eq!(lent, Buffers::filled(0xa5));
     assert_eq!(answers, [7; 4]);
     // The folder declared, or the mark taken away.
     set_field(&mut tables, 5, 6, 1);
-    assert_eq!(standing(&tables, &bytes, 0).number, 0);
+    assert_eq!(lent.standing(&tables, 0).number, 0);
     set_field(&mut tables, 5, 6, 0);
     set_field(&mut tables, 12, 6, 0);
-    assert_eq!(standing(&tables, &bytes, 0).number, 0);
+    assert_eq!(lent.standing(&tables, 0).number, 0);
 }
 
 /// Five firms of two classes, ten folders of which some are public, and roles
@@ -286,30 +285,28 @@ fn some_request(random: &mut Random) -> Request {
     }
 }
 
-/// Requests put on the tables from blank, granted or not, and foreign bits.
-fn some_history(random: &mut Random, tables: &Tables) -> Vec<u8> {
-    let mut bytes = history();
+/// Requests put on the tables from blank, granted or not, and foreign bits,
+/// with the levels that they give.
+fn some_history(random: &mut Random, tables: &Tables) -> Buffers {
+    let mut lent = Buffers::blank(tables);
     for _ in 0..random.below(12) {
-        put(tables, &mut bytes, &some_request(random).as_record());
+        lent.put(tables, &some_request(random).as_record());
     }
+    let mut set = lent.state().history;
     if random.chance(50) {
-        let mut set = set_of(&bytes);
         set.extend((0..4).map(|_| some_request(random)));
-        write_set(&set, &mut bytes);
     }
-    bytes
+    Buffers::of_set(tables, set)
 }
 
 /// The history without every access of a public folder.
-fn without_public(tables: &Tables, bytes: &[u8]) -> Vec<u8> {
-    let mut set = set_of(bytes);
+fn without_public(tables: &Tables, lent: &Buffers) -> Buffers {
+    let mut set = lent.state().history;
     set.retain(|request| match request.folder_accessed() {
         Some(folder) => !tables.folder(folder).public,
         None => true,
     });
-    let mut left = history();
-    write_set(&set, &mut left);
-    left
+    Buffers::of_set(tables, set)
 }
 
 /// The wall in other words: it passes requests for public folders, and else
@@ -320,8 +317,8 @@ fn the_wall_in_other_words() {
     let mut refused = 0;
     for _ in 0..400 {
         let tables = some_tables(&mut random, 1);
-        let bytes = some_history(&mut random, &tables);
-        let left = without_public(&tables, &bytes);
+        let lent = some_history(&mut random, &tables);
+        let left = without_public(&tables, &lent);
         for _ in 0..10 {
             let request = some_request(&mut random);
             let record = request.as_record();
@@ -331,9 +328,9 @@ fn the_wall_in_other_words() {
             };
             let expected = match passes {
                 true => 0,
-                false => judge(&tables.without_marks(), &left, &record),
+                false => left.judge(&tables.without_marks(), &record),
             };
-            assert_eq!(judge(&tables, &bytes, &record), expected);
+            assert_eq!(lent.judge(&tables, &record), expected);
             refused += usize::from(expected == 14);
         }
     }
@@ -347,11 +344,11 @@ fn marks_change_the_wall_alone() {
     let mut random = Random::new(12);
     for turn in 0..600 {
         let tables = some_tables(&mut random, (turn % 16) as u8);
-        let bytes = some_history(&mut random, &tables);
+        let lent = some_history(&mut random, &tables);
         let unmarked = tables.without_marks();
         for _ in 0..5 {
             let record = some_request(&mut random).as_record();
-            let numbers = [&tables, &unmarked].map(|either| judge(either, &bytes, &record));
+            let numbers = [&tables, &unmarked].map(|either| lent.judge(either, &record));
             if !numbers.contains(&14) {
                 assert_eq!(numbers[0], numbers[1]);
             } else {
@@ -359,8 +356,8 @@ fn marks_change_the_wall_alone() {
             }
         }
         for person in 0..4 {
-            let found = standing(&tables, &bytes, person);
-            assert_eq!(found, standing(&unmarked, &bytes, person));
+            let found = lent.standing(&tables, person);
+            assert_eq!(found, lent.standing(&unmarked, person));
         }
     }
 }
@@ -373,22 +370,22 @@ fn granted_lists_pass_in_every_order() {
     let mut longest = 0;
     for turn in 0..200 {
         let tables = some_tables(&mut random, [1, 4, 5, 0][turn % 4]);
-        let mut bytes = history();
+        let mut lent = Buffers::blank(&tables);
         let mut granted = Vec::new();
         for _ in 0..25 {
             let record = some_request(&mut random).as_record();
-            if put(&tables, &mut bytes, &record) == 0 {
+            if lent.put(&tables, &record) == 0 {
                 granted.push(record);
             }
         }
         longest = longest.max(granted.len());
         for _ in 0..5 {
             random.shuffle(&mut granted);
-            let mut reordered = history();
+            let mut reordered = Buffers::blank(&tables);
             for record in &granted {
-                assert_eq!(put(&tables, &mut reordered, record), 0);
+                assert_eq!(reordered.put(&tables, record), 0);
             }
-            assert_eq!(reordered, bytes);
+            assert_eq!(reordered, lent);
         }
     }
     assert!(longest >= 20, "{longest}");

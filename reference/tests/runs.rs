@@ -2,9 +2,9 @@
 
 mod common;
 
-use common::{history, marked, with_mask, NO_RUN};
+use common::{marked, with_mask, NO_RUN};
 use reference::marked::REQUESTS;
-use reference::{put, run, Ran};
+use reference::{Buffers, Ran};
 
 #[test]
 fn number_18_too_few_answers() {
@@ -13,9 +13,9 @@ fn number_18_too_few_answers() {
     let with_unknown = [&REQUESTS[..], &[20], &REQUESTS[..]].concat();
     for (requests, due) in [(&REQUESTS[..], 10), (&with_cut, 11), (&with_unknown, 11)] {
         for length in 0..due {
-            let mut bytes = vec![0xa5; 18_944];
+            let mut lent = Buffers::filled(0xa5);
             let mut answers = vec![7; length];
-            let ran = run(&tables, &mut bytes, requests, &mut answers);
+            let ran = lent.run(&tables, requests, &mut answers);
             assert_eq!(
                 ran,
                 Ran {
@@ -23,12 +23,14 @@ fn number_18_too_few_answers() {
                     ..NO_RUN
                 }
             );
-            assert!(bytes.iter().all(|byte| *byte == 0xa5));
+            assert_eq!(lent, Buffers::filled(0xa5));
             assert!(answers.iter().all(|byte| *byte == 7));
         }
         let mut answers = vec![7; due];
         assert_eq!(
-            run(&tables, &mut history(), requests, &mut answers).number,
+            Buffers::blank(&tables)
+                .run(&tables, requests, &mut answers)
+                .number,
             0
         );
     }
@@ -39,33 +41,33 @@ fn a_run_ends_at_the_first_unreadable_record() {
     let tables = with_mask(0);
     for bad in [&[20, 1, 1][..], &[0], &[255, 0, 0]] {
         let requests = [&[16, 0, 0][..], bad, &[17, 0, 0]].concat();
-        let mut bytes = history();
+        let mut lent = Buffers::blank(&tables);
         let mut answers = [7; 5];
-        let ran = run(&tables, &mut bytes, &requests, &mut answers);
+        let ran = lent.run(&tables, &requests, &mut answers);
         assert_eq!((ran.number, ran.granted, ran.refused), (0, 1, 1));
         assert_eq!(answers, [0, 12, 7, 7, 7]);
-        let mut expected = history();
-        expected[0] = 1;
-        assert_eq!(bytes, expected);
+        let mut expected = Buffers::blank(&tables);
+        expected.history[0] = 1;
+        assert_eq!(lent, expected);
     }
 }
 
 #[test]
 fn a_run_of_no_bytes() {
-    let mut bytes = vec![0xa5; 18_944];
-    assert_eq!(run(&marked(), &mut bytes, &[], &mut []), NO_RUN);
+    let mut lent = Buffers::filled(0xa5);
+    assert_eq!(lent.run(&marked(), &[], &mut []), NO_RUN);
     let mut answers = [7; 3];
-    assert_eq!(run(&marked(), &mut bytes, &[], &mut answers), NO_RUN);
+    assert_eq!(lent.run(&marked(), &[], &mut answers), NO_RUN);
     assert_eq!(answers, [7; 3]);
-    assert!(bytes.iter().all(|byte| *byte == 0xa5));
+    assert_eq!(lent, Buffers::filled(0xa5));
 }
 
 #[test]
 fn a_run_is_the_puts_one_after_another() {
     let mut random = reference::random::Random::new(3);
     let tables = marked();
-    let mut as_run = history();
-    let mut as_puts = history();
+    let mut as_run = Buffers::blank(&tables);
+    let mut as_puts = as_run.clone();
     for _ in 0..40 {
         let mut records: Vec<Vec<u8>> = Vec::new();
         for _ in 0..10 {
@@ -77,9 +79,9 @@ fn a_run_is_the_puts_one_after_another() {
             records.push(record);
         }
         let mut answers = [0; 10];
-        let ran = run(&tables, &mut as_run, &records.concat(), &mut answers);
+        let ran = as_run.run(&tables, &records.concat(), &mut answers);
         for (record, answer) in records.iter().zip(answers) {
-            assert_eq!(put(&tables, &mut as_puts, record), answer);
+            assert_eq!(as_puts.put(&tables, record), answer);
         }
         assert_eq!(as_run, as_puts);
         let zeros = answers.iter().filter(|answer| **answer == 0).count();

@@ -6,28 +6,26 @@
 
 mod common;
 
-use common::{history, marked, with_mask, NO_RUN};
-use reference::history::{set_of, write_set, History};
+use common::{marked, with_mask, NO_RUN};
+use reference::history::History;
 use reference::marked::{STEP_ANSWERS, STEP_BOOK, STEP_REQUESTS};
 use reference::random::Random;
-use reference::{judge, load, put, run, standing, Level, Ran, Request, Tables};
+use reference::{load, Buffers, Level, Ran, Request, Tables};
 
 /// Puts records from a history and expects their numbers.
-fn expect_puts(tables: &Tables, bytes: &mut [u8], puts: &[(&[u8], u8)]) {
+fn expect_puts(tables: &Tables, lent: &mut Buffers, puts: &[(&[u8], u8)]) {
     for (place, (record, number)) in puts.iter().enumerate() {
-        assert_eq!(put(tables, bytes, record), *number, "{place}: {record:?}");
+        assert_eq!(lent.put(tables, record), *number, "{place}: {record:?}");
     }
 }
 
-/// The history in which only these requests have a bit.
-fn bytes_of(requests: impl IntoIterator<Item = Request>) -> Vec<u8> {
-    let mut bytes = history();
-    write_set(&requests.into_iter().collect(), &mut bytes);
-    bytes
+/// The history in which only these requests have a bit, with its levels.
+fn lent_of(tables: &Tables, requests: impl IntoIterator<Item = Request>) -> Buffers {
+    Buffers::of_set(tables, requests.into_iter().collect())
 }
 
-fn level(tables: &Tables, bytes: &[u8], person: u8) -> u16 {
-    let found = standing(tables, bytes, person);
+fn level(tables: &Tables, lent: &Buffers, person: u8) -> u16 {
+    let found = lent.standing(tables, person);
     assert_eq!(found.number, 0);
     found.level
 }
@@ -35,8 +33,9 @@ fn level(tables: &Tables, bytes: &[u8], person: u8) -> u16 {
 #[test]
 fn the_worked_case() {
     let tables = load(&STEP_BOOK).tables;
-    let (mut as_run, mut as_puts, mut answers) = (history(), history(), [99; 4]);
-    let ran = run(&tables, &mut as_run, &STEP_REQUESTS, &mut answers);
+    let blank = Buffers::blank(&tables);
+    let (mut as_run, mut as_puts, mut answers) = (blank.clone(), blank, [99; 4]);
+    let ran = as_run.run(&tables, &STEP_REQUESTS, &mut answers);
     assert_eq!((ran.granted, ran.refused), (2, 2));
     assert_eq!(answers, STEP_ANSWERS);
     let puts: [(&[u8], u8); 4] = [
@@ -55,15 +54,15 @@ fn every_step_lowers_as_a_read_does() {
     let tables = with_mask(2);
     let steps = (0..16).map(|step| vec![19, 0, step, 2]);
     for lowering in steps.chain([vec![16, 0, 2]]) {
-        let mut bytes = history();
+        let mut lent = Buffers::blank(&tables);
         let before: [(&[u8], u8); 4] = [
             (&[17, 0, 0], 0),
             (&[19, 0, 7, 0], 0),
             (&[18, 1, 0], 15),
             (&lowering, 0),
         ];
-        expect_puts(&tables, &mut bytes, &before);
-        assert_eq!(level(&tables, &bytes, 0), 0x1001);
+        expect_puts(&tables, &mut lent, &before);
+        assert_eq!(level(&tables, &lent, 0), 0x1001);
         let after: [(&[u8], u8); 6] = [
             (&[17, 0, 0], 15),
             (&[19, 0, 7, 0], 15),
@@ -72,29 +71,29 @@ fn every_step_lowers_as_a_read_does() {
             (&[19, 0, 0, 2], 0),
             (&[16, 0, 0], 0),
         ];
-        expect_puts(&tables, &mut bytes, &after);
-        assert_eq!(level(&tables, &bytes, 0), 0x1001);
+        expect_puts(&tables, &mut lent, &after);
+        assert_eq!(level(&tables, &lent, 0), 0x1001);
     }
 }
 
 #[test]
 fn a_step_is_judged_by_the_current_level() {
     let tables = with_mask(2);
-    let mut bytes = history();
+    let mut lent = Buffers::blank(&tables);
     // At the first level, whatever the step, and again.
     for step in [0, 1, 15, 15] {
-        expect_puts(&tables, &mut bytes, &[(&[19, 0, step, 0], 0)]);
-        assert_eq!(level(&tables, &bytes, 0), 0x2003);
+        expect_puts(&tables, &mut lent, &[(&[19, 0, step, 0], 0)]);
+        assert_eq!(level(&tables, &lent, 0), 0x2003);
     }
-    expect_puts(&tables, &mut bytes, &[(&[16, 0, 2], 0)]);
-    let before = bytes.clone();
+    expect_puts(&tables, &mut lent, &[(&[16, 0, 2], 0)]);
+    let before = lent.clone();
     for step in 0..16 {
-        expect_puts(&tables, &mut bytes, &[(&[19, 0, step, 0], 15)]);
-        expect_puts(&tables, &mut bytes, &[(&[19, 1, step, 1], 15)]);
+        expect_puts(&tables, &mut lent, &[(&[19, 0, step, 0], 15)]);
+        expect_puts(&tables, &mut lent, &[(&[19, 1, step, 1], 15)]);
     }
     // A refused step is not recorded and lowers nobody.
-    assert_eq!(bytes, before);
-    assert_eq!(level(&tables, &bytes, 1), 0x1001);
+    assert_eq!(lent, before);
+    assert_eq!(level(&tables, &lent, 1), 0x1001);
 }
 
 #[test]
@@ -102,25 +101,25 @@ fn a_step_needs_the_compartments_too() {
     let tables = load(&STEP_BOOK).tables;
     // The rank of folder 2 is lower than that of the person.
     let puts: [(&[u8], u8); 2] = [(&[19, 0, 3, 2], 15), (&[17, 0, 2], 15)];
-    expect_puts(&tables, &mut history(), &puts);
+    expect_puts(&tables, &mut Buffers::blank(&tables), &puts);
 }
 
 #[test]
 fn steps_lower_under_every_mask() {
     for mask in 0..16 {
         let tables = with_mask(mask);
-        let mut bytes = history();
-        expect_puts(&tables, &mut bytes, &[(&[19, 0, 0, 2], 0)]);
-        assert_eq!(level(&tables, &bytes, 0), 0x1001);
+        let mut lent = Buffers::blank(&tables);
+        expect_puts(&tables, &mut lent, &[(&[19, 0, 0, 2], 0)]);
+        assert_eq!(level(&tables, &lent, 0), 0x1001);
         let written = if mask & 2 == 0 { 0 } else { 15 };
-        expect_puts(&tables, &mut bytes, &[(&[17, 0, 0], written)]);
+        expect_puts(&tables, &mut lent, &[(&[17, 0, 0], written)]);
         for step in 0..16 {
             let stepped = Request::Step {
                 person: 0,
                 step,
                 folder: 2,
             };
-            assert_eq!(level(&tables, &bytes_of([stepped]), 0), 0x1001);
+            assert_eq!(level(&tables, &lent_of(&tables, [stepped]), 0), 0x1001);
         }
     }
 }
@@ -129,15 +128,15 @@ fn steps_lower_under_every_mask() {
 fn writes_and_starts_do_not_lower() {
     for mask in 0..16 {
         let tables = with_mask(mask);
-        let mut bytes = history();
+        let mut lent = Buffers::blank(&tables);
         let puts: [(&[u8], u8); 4] = [
             (&[17, 0, 2], 0),
             (&[18, 0, 1], 0),
             (&[17, 0, 0], 0),
             (&[19, 0, 0, 0], 0),
         ];
-        expect_puts(&tables, &mut bytes, &puts);
-        assert_eq!(level(&tables, &bytes, 0), 0x2003);
+        expect_puts(&tables, &mut lent, &puts);
+        assert_eq!(level(&tables, &lent, 0), 0x2003);
     }
 }
 
@@ -145,10 +144,10 @@ fn writes_and_starts_do_not_lower() {
 fn a_step_of_another_person_does_not_lower() {
     for mask in 0..16 {
         let tables = with_mask(mask);
-        let mut bytes = history();
-        expect_puts(&tables, &mut bytes, &[(&[19, 1, 0, 2], 0)]);
-        assert_eq!(level(&tables, &bytes, 0), 0x2003);
-        expect_puts(&tables, &mut bytes, &[(&[17, 0, 0], 0)]);
+        let mut lent = Buffers::blank(&tables);
+        expect_puts(&tables, &mut lent, &[(&[19, 1, 0, 2], 0)]);
+        assert_eq!(level(&tables, &lent, 0), 0x2003);
+        expect_puts(&tables, &mut lent, &[(&[17, 0, 0], 0)]);
     }
 }
 
@@ -165,13 +164,13 @@ fn steps_of_undeclared_parties_lower_nothing() {
             });
         }
     }
-    let bytes = bytes_of(past);
     for mask in 0..16 {
         let tables = with_mask(mask);
-        let found = standing(&tables, &bytes, 0);
+        let lent = lent_of(&tables, past.clone());
+        let found = lent.standing(&tables, 0);
         assert_eq!((found.level, found.rights, found.firms), (0x2003, 0, 0));
         for record in [&[17, 0, 0][..], &[19, 0, 0, 0], &[18, 0, 1]] {
-            assert_eq!(judge(&tables, &bytes, record), 0);
+            assert_eq!(lent.judge(&tables, record), 0);
         }
     }
 }
@@ -185,16 +184,17 @@ fn the_wall_before_the_level_and_this_before_the_others() {
         folder: 1,
     };
     for mask in 0..16 {
-        for (bytes, rules) in [
+        let tables = with_mask(mask);
+        for (lent, rules) in [
             (
-                bytes_of([rival_read]),
+                lent_of(&tables, [rival_read]),
                 &[(1, 14), (2, 15), (4, 16), (8, 17)][..],
             ),
-            (history(), &[(2, 15), (4, 16), (8, 17)]),
+            (Buffers::blank(&tables), &[(2, 15), (4, 16), (8, 17)]),
         ] {
             let first = rules.iter().find(|(bit, _)| mask & bit != 0);
             let number = first.map_or(0, |(_, number)| *number);
-            assert_eq!(judge(&with_mask(mask), &bytes, &[19, 1, 5, 0]), number);
+            assert_eq!(lent.judge(&tables, &[19, 1, 5, 0]), number);
         }
     }
 }
@@ -202,8 +202,8 @@ fn the_wall_before_the_level_and_this_before_the_others() {
 #[test]
 fn a_run_takes_the_level_from_its_own_steps() {
     let requests = [17, 0, 0, 19, 0, 0, 2, 17, 0, 0, 19, 0, 1, 2, 19, 0, 0, 0];
-    let (mut bytes, mut answers) = (history(), [99; 6]);
-    let ran = run(&marked(), &mut bytes, &requests, &mut answers);
+    let (mut lent, mut answers) = (Buffers::blank(&marked()), [99; 6]);
+    let ran = lent.run(&marked(), &requests, &mut answers);
     let expected = Ran {
         granted: 3,
         refused: 2,
@@ -252,27 +252,28 @@ fn some_request(random: &mut Random) -> Request {
     }
 }
 
-/// Requests put from blank, granted or not, and foreign bits.
-fn some_history(random: &mut Random, tables: &Tables) -> Vec<u8> {
-    let mut bytes = history();
+/// Requests put from blank, granted or not, and foreign bits, with the levels
+/// that they give.
+fn some_history(random: &mut Random, tables: &Tables) -> Buffers {
+    let mut lent = Buffers::blank(tables);
     for _ in 0..random.below(6) {
-        put(tables, &mut bytes, &some_request(random).as_record());
+        lent.put(tables, &some_request(random).as_record());
     }
-    let mut set = set_of(&bytes);
+    let mut set = lent.state().history;
     set.extend((0..random.below(4)).map(|_| some_request(random)));
-    bytes_of(set)
+    lent_of(tables, set)
 }
 
 /// The history with a read in the place of each step.
-fn with_reads(bytes: &[u8]) -> Vec<u8> {
-    let as_reads: History = set_of(bytes)
-        .into_iter()
+fn with_reads(tables: &Tables, lent: &Buffers) -> Buffers {
+    let past = lent.state().history.into_iter();
+    let as_reads: History = past
         .map(|past| match past {
             Request::Step { person, folder, .. } => Request::Read { person, folder },
             _ => past,
         })
         .collect();
-    bytes_of(as_reads)
+    lent_of(tables, as_reads)
 }
 
 /// Point 2 in other words: a step is judged as a write, and levels are those
@@ -283,15 +284,12 @@ fn low_water_in_other_words() {
     let (mut refused, mut lowered) = (0, 0);
     for _ in 0..500 {
         let tables = some_tables(&mut random, 2);
-        let bytes = some_history(&mut random, &tables);
-        let read = with_reads(&bytes);
+        let lent = some_history(&mut random, &tables);
+        let read = with_reads(&tables, &lent);
         for person in 0..4 {
-            assert_eq!(
-                level(&tables, &bytes, person),
-                level(&tables, &read, person)
-            );
+            assert_eq!(level(&tables, &lent, person), level(&tables, &read, person));
             let first = tables.persons[usize::from(person)].level;
-            lowered += usize::from(Level::from_number(level(&tables, &bytes, person)) != first);
+            lowered += usize::from(Level::from_number(level(&tables, &lent, person)) != first);
         }
         for _ in 0..10 {
             let request = some_request(&mut random);
@@ -299,8 +297,8 @@ fn low_water_in_other_words() {
                 Request::Step { person, folder, .. } => Request::Write { person, folder },
                 _ => request,
             };
-            let number = judge(&tables, &bytes, &request.as_record());
-            assert_eq!(number, judge(&tables, &read, &as_write.as_record()));
+            let number = lent.judge(&tables, &request.as_record());
+            assert_eq!(number, read.judge(&tables, &as_write.as_record()));
             refused += usize::from(number == 15 && request != as_write);
         }
     }
@@ -313,7 +311,7 @@ fn levels_change_low_water_alone() {
     let mut random = Random::new(22);
     for turn in 0..400 {
         let tables = some_tables(&mut random, [0, 1, 4, 5, 8, 9, 12, 13][turn % 8]);
-        let bytes = some_history(&mut random, &tables);
+        let lent = some_history(&mut random, &tables);
         let mut lowest = tables.clone();
         for person in &mut lowest.persons {
             person.level = Level::lowest();
@@ -323,8 +321,8 @@ fn levels_change_low_water_alone() {
         }
         for _ in 0..10 {
             let record = some_request(&mut random).as_record();
-            let number = judge(&tables, &bytes, &record);
-            assert_eq!(number, judge(&lowest, &bytes, &record));
+            let number = lent.judge(&tables, &record);
+            assert_eq!(number, lent.judge(&lowest, &record));
             assert_ne!(number, 15);
         }
     }

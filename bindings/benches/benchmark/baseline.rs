@@ -1,15 +1,37 @@
 //! The algorithm of the proved monitor in plain Rust: the folders on which a
 //! person stepped are found first, then one pass over the folders on which the
 //! person did anything; sets as masks, reads and writes by words, steps by
-//! doubling, the set of the declared persons made once a run. Tables are lent by
-//! reference.
+//! doubling, the set of the declared persons made once a run. A level is read
+//! from the lent levels and stored there. Tables are lent by reference.
 
 use crate::tables::{given, load, Folder, Tables};
 
 pub const HISTORY_BYTES: usize = 18_944;
+pub const LEVELS_BYTES: usize = 128;
 
 fn at_most(a: u16, b: u16) -> bool {
     a >> 12 <= b >> 12 && a & b & 0xfff == a & 0xfff
+}
+
+fn meet(a: u16, b: u16) -> u16 {
+    (a & 0xf000).min(b & 0xf000) | a & b & 0xfff
+}
+
+/// The stored level of a person.
+fn level_of(levels: &[u8], s: usize) -> u16 {
+    u16::from_le_bytes([levels[2 * s], levels[2 * s + 1]])
+}
+
+/// Stores the meet with the level of the folder of a granted read or step.
+fn lower(t: &Tables, levels: &mut [u8], record: &[u8]) {
+    let o = match record[0] {
+        16 => record[2],
+        19 => record[3],
+        _ => return,
+    };
+    let s = usize::from(record[1]);
+    let level = meet(level_of(levels, s), t.folders[usize::from(o)].level);
+    levels[2 * s..2 * s + 2].copy_from_slice(&level.to_le_bytes());
 }
 
 fn bit(h: &[u8], i: usize) -> bool {
@@ -97,35 +119,6 @@ fn past_of(t: &Tables, h: &[u8], s: usize, stepped: [u64; 2]) -> Past {
     past
 }
 
-/// The level after those of 64 folders that are in the set: the lowest is taken
-/// out of the set in each turn, rank and compartments are met apart.
-fn level_over(folders: &[Folder], set: u64, before: u16) -> u16 {
-    let (mut rank, mut compartments) = (before >> 12, before & 0xfff);
-    let mut rest = set;
-    while rest != 0 {
-        let folder = &folders[rest.trailing_zeros() as usize];
-        if folder.declared {
-            rank = rank.min(folder.level >> 12);
-            compartments &= folder.level;
-        }
-        rest &= rest - 1;
-    }
-    rank << 12 | compartments
-}
-
-/// The current level of a person: the folders read and those stepped on are
-/// one set.
-fn level_with(t: &Tables, h: &[u8], s: usize, stepped: [u64; 2]) -> u16 {
-    let low = word(h, 16 * s) | stepped[0];
-    let high = word(h, 16 * s + 8) | stepped[1];
-    let level = level_over(&t.folders[..64], low, t.persons[s].level);
-    level_over(&t.folders[64..], high, level)
-}
-
-fn current_level(t: &Tables, h: &[u8], s: usize) -> u16 {
-    level_with(t, h, s, stepped_by(h, s))
-}
-
 fn wall_permits(t: &Tables, firms: u64, o: usize) -> bool {
     let firm = usize::from(t.folders[o].firm);
     if firms >> firm & 1 == 1 {
@@ -170,16 +163,23 @@ fn in_force(t: &Tables, rule: u8) -> bool {
     t.mask >> rule & 1 == 1
 }
 
-fn judge_access(t: &Tables, h: &[u8], s: usize, o: usize, right: usize, modifies: bool) -> u8 {
+fn judge_access(
+    t: &Tables,
+    h: &[u8],
+    levels: &[u8],
+    (s, o): (usize, usize),
+    right: usize,
+    modifies: bool,
+) -> u8 {
     let walled = in_force(t, 0) && !t.folders[o].public;
     let levelled = in_force(t, 1) && modifies;
-    if walled || in_force(t, 2) {
-        let stepped = stepped_by(h, s);
-        let past = past_of(t, h, s, stepped);
+    let too_low = levelled && !at_most(t.folders[o].level, level_of(levels, s));
+    if walled || in_force(t, 2) && !too_low {
+        let past = past_of(t, h, s, stepped_by(h, s));
         if walled && !wall_permits(t, past.firms, o) {
             return 14;
         }
-        if levelled && !at_most(t.folders[o].level, level_with(t, h, s, stepped)) {
+        if too_low {
             return 15;
         }
         if in_force(t, 2) && !roles_permit(t, past.rights, right) {
@@ -187,50 +187,49 @@ fn judge_access(t: &Tables, h: &[u8], s: usize, o: usize, right: usize, modifies
         }
         return 0;
     }
-    if !levelled || at_most(t.folders[o].level, current_level(t, h, s)) {
-        return 0;
+    if too_low {
+        15
+    } else {
+        0
     }
-    15
 }
 
 fn are_declared(t: &Tables, s: usize, o: usize) -> bool {
     s < 64 && t.persons[s].declared && o < 128 && t.folders[o].declared
 }
 
-fn judge_step(t: &Tables, persons: u64, h: &[u8], s: usize, p: usize, o: usize) -> u8 {
+fn judge_step(
+    t: &Tables,
+    persons: u64,
+    h: &[u8],
+    levels: &[u8],
+    (s, p, o): (usize, usize, usize),
+) -> u8 {
     if p > 15 || !are_declared(t, s, o) {
         return 13;
     }
-    let number = judge_access(t, h, s, o, 48 + p, true);
+    let number = judge_access(t, h, levels, (s, o), 48 + p, true);
     if number != 0 || !in_force(t, 3) || pipeline_permits(t, persons, h, p, o) {
         return number;
     }
     17
 }
 
-fn judge_start(t: &Tables, h: &[u8], s: usize, u: usize) -> u8 {
+fn judge_start(t: &Tables, h: &[u8], levels: &[u8], s: usize, u: usize) -> u8 {
     if s > 63 || !t.persons[s].declared || u > 63 || !t.persons[u].declared {
         return 13;
     }
-    if in_force(t, 2) {
-        let stepped = stepped_by(h, s);
-        if in_force(t, 1) && !at_most(current_level(t, h, u), level_with(t, h, s, stepped)) {
-            return 15;
-        }
-        return if roles_permit(t, past_of(t, h, s, stepped).rights, 32) {
-            0
-        } else {
-            16
-        };
+    if in_force(t, 1) && !at_most(level_of(levels, u), level_of(levels, s)) {
+        return 15;
     }
-    if !in_force(t, 1) || at_most(current_level(t, h, u), current_level(t, h, s)) {
-        return 0;
+    if in_force(t, 2) && !roles_permit(t, past_of(t, h, s, stepped_by(h, s)).rights, 32) {
+        return 16;
     }
-    15
+    0
 }
 
 /// The number, the index of the request's bit and the length of its record.
-fn judge(t: &Tables, persons: u64, h: &[u8], bytes: &[u8]) -> (u8, usize, usize) {
+fn judge(t: &Tables, persons: u64, h: &[u8], levels: &[u8], bytes: &[u8]) -> (u8, usize, usize) {
     let field = |place: usize| usize::from(bytes[place]);
     let length = record_length(bytes);
     if length == 0 {
@@ -242,17 +241,21 @@ fn judge(t: &Tables, persons: u64, h: &[u8], bytes: &[u8]) -> (u8, usize, usize)
             let (o, write) = (field(2), bytes[0] == 17);
             let number = if are_declared(t, s, o) {
                 let kind = usize::from(t.folders[o].kind);
-                judge_access(t, h, s, o, if write { 16 + kind } else { kind }, write)
+                let right = if write { 16 + kind } else { kind };
+                judge_access(t, h, levels, (s, o), right, write)
             } else {
                 13
             };
             (number, 8192 * usize::from(write) + 128 * s + o)
         }
-        18 => (judge_start(t, h, s, field(2)), 16384 + 64 * s + field(2)),
+        18 => (
+            judge_start(t, h, levels, s, field(2)),
+            16384 + 64 * s + field(2),
+        ),
         _ => {
             let (p, o) = (field(2), field(3));
             (
-                judge_step(t, persons, h, s, p, o),
+                judge_step(t, persons, h, levels, (s, p, o)),
                 20480 + 64 * (16 * o + p) + s,
             )
         }
@@ -281,28 +284,48 @@ fn answers_due(requests: &[u8]) -> usize {
     due
 }
 
+/// The number of the tables and the lengths: 10, 20, 11 or 18.
+fn check(t: &Tables, lengths: [usize; 2], requests: &[u8], room: usize) -> u8 {
+    if lengths[0] != HISTORY_BYTES {
+        return 10;
+    }
+    if lengths[1] != LEVELS_BYTES {
+        return 20;
+    }
+    if !given(t) {
+        return 11;
+    }
+    if room < answers_due(requests) {
+        return 18;
+    }
+    0
+}
+
 /// Loads the book and puts one request after another: the number, and the
 /// granted and refused requests.
-pub fn run(book: &[u8], h: &mut [u8], requests: &[u8], answers: &mut [u8]) -> (u8, usize, usize) {
+pub fn run(
+    book: &[u8],
+    h: &mut [u8],
+    levels: &mut [u8],
+    requests: &[u8],
+    answers: &mut [u8],
+) -> (u8, usize, usize) {
     let t = match load(book) {
         Ok(t) => t,
         Err(number) => return (number, 0, 0),
     };
-    if h.len() != HISTORY_BYTES {
-        return (10, 0, 0);
-    }
-    if !given(&t) {
-        return (11, 0, 0);
-    }
-    if answers.len() < answers_due(requests) {
-        return (18, 0, 0);
+    let number = check(&t, [h.len(), levels.len()], requests, answers.len());
+    if number != 0 {
+        return (number, 0, 0);
     }
     let persons = declared_persons(&t);
     let (mut at, mut i, mut granted) = (0, 0, 0);
     while at < requests.len() {
-        let (number, index, length) = judge(&t, persons, h, &requests[at..]);
+        let record = &requests[at..];
+        let (number, index, length) = judge(&t, persons, h, levels, record);
         if number == 0 {
             h[index / 8] |= 1 << (index % 8);
+            lower(&t, levels, record);
             granted += 1;
         }
         answers[i] = number;

@@ -1,11 +1,18 @@
 //! Compares the proved monitor with the same algorithm in plain Rust: one run
-//! call on the same bytes, nanoseconds a request. Both must give the same.
+//! call on the same bytes, nanoseconds a request. Both must give the same. At the
+//! end it prints how much longer the proved monitor takes where low-water alone
+//! is in force than where no rule is; the exit status is not 0 if that is too
+//! much.
 
 mod baseline;
 mod tables;
 
+use reference::history::set_of;
+use reference::levels::write_levels;
 use reference::random::Random;
+use reference::State;
 use std::hint::black_box;
+use std::process::ExitCode;
 use std::time::Instant;
 
 /// In each round each side runs every input of a workload once, in turns; the
@@ -41,8 +48,16 @@ const WORKLOADS: [Workload; 4] = [
     workload("month, dense history", 1, MONTH, true),
 ];
 
-/// All rules, and each rule alone: wall, low-water, roles, pipeline.
-const MASKS: [u8; 5] = [15, 1, 2, 4, 8];
+/// All rules, each rule alone (wall, low-water, roles, pipeline), and no rule.
+const MASKS: [u8; 6] = [15, 1, 2, 0, 4, 8];
+
+/// The masks of low-water alone and of no rule.
+const LOW_WATER: u8 = 2;
+const NO_RULE: u8 = 0;
+
+/// A request under low-water takes at most so many times as long as one under
+/// no rule.
+const MOST: f64 = 1.8;
 
 /// A book that declares every number.
 fn full_book(random: &mut Random, mask: u8) -> Vec<u8> {
@@ -87,57 +102,80 @@ fn requests(random: &mut Random, count: usize) -> Vec<u8> {
     requests
 }
 
-fn first_history(random: &mut Random, dense: bool) -> Vec<u8> {
-    let mut history = vec![0; baseline::HISTORY_BYTES];
+/// The history and the levels that a run is lent.
+#[derive(Clone, PartialEq, Eq)]
+struct Lent {
+    history: Vec<u8>,
+    levels: Vec<u8>,
+}
+
+/// Blank, or a dense history and the levels that it gives.
+fn first_lent(random: &mut Random, book: &[u8], dense: bool) -> Lent {
+    let mut history = vec![99; baseline::HISTORY_BYTES];
+    let mut levels = vec![99; baseline::LEVELS_BYTES];
+    assert_eq!(kweldabe::blank(book, &mut history, &mut levels), 0);
     if dense {
         history.fill_with(|| random.byte());
+        let tables = reference::load(book).tables;
+        let mut state = State::blank(&tables);
+        for past in set_of(&history) {
+            state.record(&tables, &past);
+        }
+        write_levels(&state.levels, &mut levels);
     }
-    history
+    Lent { history, levels }
 }
 
-/// What a run leaves: its number and counts, the history and the answers.
-type Left = ((u8, usize, usize), Vec<u8>, Vec<u8>);
+/// What a run leaves: its number and counts, history and levels, and the answers.
+type Left = ((u8, usize, usize), Lent, Vec<u8>);
 
-/// One run from a history: what it leaves and the nanoseconds that it took.
+/// One run on history and levels: what it leaves and the nanoseconds that it
+/// took.
 fn timed(
-    run: impl Fn(&mut [u8], &mut [u8]) -> (u8, usize, usize),
-    first: &[u8],
+    run: impl Fn(&mut Lent, &mut [u8]) -> (u8, usize, usize),
+    first: &Lent,
     count: usize,
 ) -> (Left, f64) {
-    let mut history = first.to_vec();
+    let mut lent = first.clone();
     let mut answers = vec![99; count];
     let start = Instant::now();
-    let ran = run(black_box(&mut history), black_box(&mut answers));
+    let ran = run(black_box(&mut lent), black_box(&mut answers));
     let nanoseconds = start.elapsed().as_nanos() as f64;
-    ((ran, history, answers), nanoseconds)
+    ((ran, lent, answers), nanoseconds)
 }
 
-/// The bytes of one run: the book, the requests and the history before it.
+/// The bytes of one run: the book, the requests, and history and levels before
+/// it.
 struct Input {
     book: Vec<u8>,
     requests: Vec<u8>,
-    first: Vec<u8>,
+    first: Lent,
 }
 
 fn input(workload: &Workload, mask: u8, seed: usize) -> Input {
     let mut random = Random::new(seed as u64);
+    let book = full_book(&mut random, mask);
+    let requests = requests(&mut random, workload.requests);
+    let first = first_lent(&mut random, &book, workload.dense);
     Input {
-        book: full_book(&mut random, mask),
-        requests: requests(&mut random, workload.requests),
-        first: first_history(&mut random, workload.dense),
+        book,
+        requests,
+        first,
     }
 }
 
 /// What both sides grant of an input, and the nanoseconds of the proved and of
 /// the plain run.
 fn both(input: &Input, count: usize) -> (usize, f64, f64) {
-    let proved = |history: &mut [u8], answers: &mut [u8]| {
-        let ran = kweldabe::run(&input.book, history, &input.requests, answers);
+    let (book, requests) = (&input.book, &input.requests);
+    let proved = |lent: &mut Lent, answers: &mut [u8]| {
+        let Lent { history, levels } = lent;
+        let ran = kweldabe::run(book, history, levels, requests, answers);
         let ran = ran.expect("short requests");
         (ran.number, ran.granted, ran.refused)
     };
-    let plain = |history: &mut [u8], answers: &mut [u8]| {
-        baseline::run(&input.book, history, &input.requests, answers)
+    let plain = |lent: &mut Lent, answers: &mut [u8]| {
+        baseline::run(book, &mut lent.history, &mut lent.levels, requests, answers)
     };
     let (left, ours) = timed(proved, &input.first, count);
     let (plain_left, theirs) = timed(plain, &input.first, count);
@@ -146,7 +184,9 @@ fn both(input: &Input, count: usize) -> (usize, f64, f64) {
     (left.0 .1, ours, theirs)
 }
 
-fn compare(workload: &Workload, mask: u8) {
+/// Prints a row, and gives the nanoseconds that a request takes of the proved
+/// monitor.
+fn compare(workload: &Workload, mask: u8) -> f64 {
     let mut granted = vec![0; workload.inputs];
     let mut ours = vec![f64::MAX; workload.inputs];
     let mut theirs = vec![f64::MAX; workload.inputs];
@@ -173,16 +213,41 @@ fn compare(workload: &Workload, mask: u8) {
         theirs / count,
         ours / theirs
     );
+    ours / count
 }
 
-fn main() {
-    println!("| workload | mask | requests | granted | proved, ns | plain Rust, ns | ratio |");
-    println!("|---|---|---|---|---|---|---|");
-    for workload in &WORKLOADS {
-        for mask in MASKS {
-            compare(workload, mask);
+/// The rows of a workload. Where the history is not dense it gives how many
+/// times as long low-water alone takes as no rule.
+fn rows(workload: &Workload) -> Option<f64> {
+    let (mut low_water, mut no_rule) = (0.0, 0.0);
+    for mask in MASKS {
+        if mask == NO_RULE && workload.dense {
+            continue;
+        }
+        let nanoseconds = compare(workload, mask);
+        match mask {
+            LOW_WATER => low_water = nanoseconds,
+            NO_RULE => no_rule = nanoseconds,
+            _ => {}
         }
     }
-    compare(&workload("day", DAYS, DAY, false), 0);
+    (!workload.dense).then_some(low_water / no_rule)
+}
+
+fn main() -> ExitCode {
+    println!("| workload | mask | requests | granted | proved, ns | plain Rust, ns | ratio |");
+    println!("|---|---|---|---|---|---|---|");
+    let ratios: Vec<_> = WORKLOADS.iter().map(|it| (it.name, rows(it))).collect();
     compare(&workload("one request", DAYS, 1, false), 15);
+    println!();
+    let mut code = ExitCode::SUCCESS;
+    for (name, ratio) in ratios {
+        let Some(ratio) = ratio else { continue };
+        println!("{name}: low-water alone takes {ratio:.2} times as long as no rule");
+        if ratio > MOST {
+            eprintln!("{name}: low-water alone takes more than {MOST} times as long as no rule");
+            code = ExitCode::FAILURE;
+        }
+    }
+    code
 }

@@ -6,16 +6,18 @@ mod baseline;
 mod books;
 mod lent;
 mod monitor;
+mod mutant;
 mod requests;
 mod scene;
 #[path = "../../benches/benchmark/tables.rs"]
 mod tables;
 
-use monitor::{Mutant, Mutation, Proved};
-use reference::marked;
+use monitor::Proved;
+use mutant::{Mutant, Mutation};
 use reference::random::Random;
+use reference::{marked, Buffers};
 use requests::Parties;
-use scene::NUMBERS;
+use scene::{Seen, NUMBERS};
 
 /// The calls that the main test compares at least.
 const CALLS: usize = 100_000;
@@ -24,16 +26,20 @@ const CALLS: usize = 100_000;
 fn answers_agree() {
     let mut calls = 0;
     let mut seed = 0;
-    let mut seen = [0; NUMBERS];
+    let mut seen = Seen::default();
     while calls < CALLS {
         calls += scene::play(&Proved, seed, &mut seen).unwrap_or_else(|found| panic!("{found}"));
         seed += 1;
     }
-    println!("{calls} calls in {seed} scenes agree; each number was given so often: {seen:?}");
+    let Seen { numbers, levels } = seen;
+    println!("{calls} calls in {seed} scenes agree; each number was given so often: {numbers:?}");
     let unseen: Vec<usize> = (0..NUMBERS)
-        .filter(|number| *number != 11 && seen[*number] == 0)
+        .filter(|number| *number != 11 && numbers[*number] == 0)
         .collect();
     assert!(unseen.is_empty(), "no call gave {unseen:?}");
+    let [other, given] = levels;
+    println!("{other} scenes ended on levels that the history does not give, {given} on its own");
+    assert!(3 * other >= given && 3 * given >= other);
 }
 
 /// Runs of two thousand requests each.
@@ -49,7 +55,8 @@ fn long_runs_agree() {
 fn each_mutation_is_found() {
     for mutation in Mutation::ALL {
         let mutant = Mutant { mutation };
-        let found = (0..500).find_map(|seed| scene::play(&mutant, seed, &mut [0; NUMBERS]).err());
+        let found =
+            (0..1_000).find_map(|seed| scene::play(&mutant, seed, &mut Seen::default()).err());
         match found {
             Some(text) => println!("{mutation:?}: {text}"),
             None => panic!("{mutation:?} was not found"),
@@ -65,42 +72,57 @@ fn the_baseline_agrees() {
         let book = books::some_book(&mut random);
         let loaded = reference::load(&book);
         let requests = Parties::of(&mut random, &loaded.tables).requests(&mut random, 60);
-        let mut histories = [
-            vec![0; kweldabe::HISTORY_BYTES],
-            vec![0; kweldabe::HISTORY_BYTES],
-        ];
-        let mut answers = [[99; 61], [99; 61]];
-        let plain = baseline::run(&book, &mut histories[0], &requests, &mut answers[0]);
+        let (mut plain, mut answers) = (some_buffers(&mut random, &loaded.tables), [[99; 61]; 2]);
+        let mut theirs = plain.clone();
+        let Buffers { history, levels } = &mut plain;
+        let ran = baseline::run(&book, history, levels, &requests, &mut answers[0]);
         let mut expected = (loaded.number, 0, 0);
         if loaded.number == 0 {
-            let ran = reference::run(
-                &loaded.tables,
-                &mut histories[1],
-                &requests,
-                &mut answers[1],
-            );
+            let ran = theirs.run(&loaded.tables, &requests, &mut answers[1]);
             expected = (ran.number, ran.granted, ran.refused);
         }
-        assert_eq!(plain, expected, "seed {seed}");
-        assert!(histories[0] == histories[1], "seed {seed}");
+        assert_eq!(ran, expected, "seed {seed}");
+        assert!(plain == theirs, "seed {seed}");
         assert_eq!(answers[0], answers[1], "seed {seed}");
     }
 }
 
+/// Blank, or with other levels, and now and then with levels of another length.
+fn some_buffers(random: &mut Random, tables: &reference::Tables) -> Buffers {
+    let mut buffers = Buffers::blank(tables);
+    if random.chance(50) {
+        for byte in &mut buffers.levels {
+            *byte ^= random.byte() & random.byte() & random.byte();
+        }
+    }
+    if random.chance(5) {
+        let length = random.pick(&[0, 127, 129]);
+        buffers.levels.resize(length, 255);
+    }
+    buffers
+}
+
+/// Runs requests from blank: the number, what is left, and the answers.
+fn run_from_blank<const N: usize>(
+    book: &[u8],
+    requests: &[u8],
+) -> (kweldabe::Ran, Buffers, [u8; N]) {
+    let (mut lent, mut answers) = (Buffers::filled(255), [99; N]);
+    let Buffers { history, levels } = &mut lent;
+    assert_eq!(kweldabe::blank(book, history, levels), 0);
+    let ran = kweldabe::run(book, history, levels, requests, &mut answers);
+    (ran.expect("short requests"), lent, answers)
+}
+
 #[test]
 fn the_marked_day_is_as_printed() {
-    let mut history = vec![255; kweldabe::HISTORY_BYTES];
-    let mut answers = [99; 12];
-    assert_eq!(kweldabe::blank(&mut history), 0);
-    let ran = kweldabe::run(&marked::BOOK, &mut history, &marked::REQUESTS, &mut answers);
-    assert_eq!(
-        ran,
-        Ok(kweldabe::Ran {
-            number: 0,
-            granted: 5,
-            refused: 5
-        })
-    );
+    let (ran, _, answers) = run_from_blank::<12>(&marked::BOOK, &marked::REQUESTS);
+    let expected = kweldabe::Ran {
+        number: 0,
+        granted: 5,
+        refused: 5,
+    };
+    assert_eq!(ran, expected);
     assert_eq!(answers[..10], marked::ANSWERS);
     assert_eq!(answers[10..], [99, 99]);
 }
@@ -108,11 +130,8 @@ fn the_marked_day_is_as_printed() {
 #[test]
 fn a_public_folder_of_a_rival_is_passed() {
     for (requests, expected) in marked::PUBLIC_LISTS {
-        let mut history = vec![0; kweldabe::HISTORY_BYTES];
-        let mut answers = [99; 4];
-        let ran = kweldabe::run(&marked::PUBLIC_BOOK, &mut history, &requests, &mut answers);
-        assert_eq!(ran.map(|ran| ran.number), Ok(0));
-        assert_eq!(answers, expected);
+        let (ran, _, answers) = run_from_blank(&marked::PUBLIC_BOOK, &requests);
+        assert_eq!((ran.number, answers), (0, expected));
     }
     let loaded = kweldabe::load(&[1, 1, 7, 0, 0]);
     assert_eq!((loaded.number, loaded.offset), (19, 2));
@@ -120,24 +139,41 @@ fn a_public_folder_of_a_rival_is_passed() {
 
 #[test]
 fn a_step_alters_the_folder() {
-    let mut history = vec![0; kweldabe::HISTORY_BYTES];
-    let mut answers = [99; 4];
     let (book, requests) = (&marked::STEP_BOOK, &marked::STEP_REQUESTS);
-    let ran = kweldabe::run(book, &mut history, requests, &mut answers);
-    assert_eq!(ran.map(|ran| ran.number), Ok(0));
-    assert_eq!(answers, marked::STEP_ANSWERS);
-    assert_eq!(kweldabe::standing(book, &history, 0).level, 0x1001);
+    let (ran, lent, answers) = run_from_blank(book, requests);
+    assert_eq!((ran.number, answers), (0, marked::STEP_ANSWERS));
+    let found = kweldabe::standing(book, &lent.history, &lent.levels, 0);
+    assert_eq!(found.level, 0x1001);
+    assert_eq!(lent.levels[..2], [0x01, 0x10]);
+}
+
+#[test]
+fn the_stored_level_counts() {
+    let book = &marked::STEP_BOOK;
+    let (_, mut lent, _) = run_from_blank::<4>(book, &marked::STEP_REQUESTS);
+    lent.levels[..2].copy_from_slice(&[0x03, 0x20]);
+    let Buffers { history, levels } = &mut lent;
+    assert_eq!(kweldabe::standing(book, history, levels, 0).level, 0x2003);
+    assert_eq!(kweldabe::put(book, history, levels, &[17, 0, 0]), 0);
+    assert_eq!(kweldabe::blank(book, history, &mut levels[1..]), 20);
+    assert_eq!(
+        kweldabe::blank(book, &mut history[1..], &mut levels[1..]),
+        10
+    );
+    assert_eq!(kweldabe::blank(&[1, 16, 0], history, levels), 4);
+    assert_eq!(levels[..2], [0x03, 0x20]);
 }
 
 #[test]
 fn too_many_request_bytes_are_not_passed_on() {
     let requests = vec![0; kweldabe::MOST_REQUEST_BYTES + 1];
-    let mut history = vec![0; kweldabe::HISTORY_BYTES];
+    let mut lent = Buffers::filled(0);
+    let Buffers { history, levels } = &mut lent;
     let mut answers = [99];
-    let ran = kweldabe::run(&marked::BOOK, &mut history, &requests, &mut answers);
+    let ran = kweldabe::run(&marked::BOOK, history, levels, &requests, &mut answers);
     assert_eq!(ran, Err(kweldabe::TooLong));
     let fewer = &requests[1..];
-    let ran = kweldabe::run(&marked::BOOK, &mut history, fewer, &mut answers);
+    let ran = kweldabe::run(&marked::BOOK, history, levels, fewer, &mut answers);
     assert_eq!(ran.map(|ran| (ran.number, ran.refused)), Ok((0, 1)));
     assert_eq!(answers, [12]);
 }

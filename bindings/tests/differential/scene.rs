@@ -1,21 +1,35 @@
-//! A scene: one book, one history, and calls on both monitors.
+//! A scene: one book, one history with levels, and calls on both monitors.
 
 use crate::books::{good_book, some_book};
 use crate::lent::Lent;
 use crate::monitor::Monitor;
 use crate::requests::Parties;
-use kweldabe::HISTORY_BYTES;
+use kweldabe::{HISTORY_BYTES, LEVELS_BYTES};
+use reference::history::set_of;
+use reference::levels::{levels_by_history, write_levels};
 use reference::random::Random;
+use reference::Buffers;
 use std::fmt::Debug;
 
-/// The numbers published so far are 0 to 19.
-pub const NUMBERS: usize = 20;
+/// The numbers published so far are 0 to 20.
+pub const NUMBERS: usize = 21;
 
-/// How often each number was given.
-pub type Seen = [usize; NUMBERS];
+#[derive(Default)]
+pub struct Seen {
+    /// How often each number was given.
+    pub numbers: [usize; NUMBERS],
+    /// How many scenes of good books ended on levels of declared persons that
+    /// the history does not give, and how many on those that it gives.
+    pub levels: [usize; 2],
+}
 
 /// The calls of a scene beside load and rest.
 const CALLS: usize = 40;
+
+/// In so many of a hundred calls the levels have another length. In about half
+/// of the scenes they disagree with the history, so that good levels, levels of
+/// another length and levels that disagree come about as often.
+const WRONG_LEVELS: usize = 33;
 
 /// The calls of a scene with a dense history, on which the reference is slow.
 const DENSE_CALLS: usize = 4;
@@ -25,19 +39,22 @@ pub fn play(monitor: &impl Monitor, seed: u64, seen: &mut Seen) -> Result<usize,
     let mut random = Random::new(seed);
     let book = some_book(&mut random);
     let mut scene = Scene::new(monitor, seen, random, book);
+    scene.wrong_levels = WRONG_LEVELS;
     scene
         .all_calls()
         .map_err(|found| format!("seed {seed}, call {}: {found}", scene.calls))?;
+    scene.count_levels();
     Ok(scene.calls)
 }
 
-/// Plays one run of so many requests, from a blank history.
+/// Plays one run of so many requests, from blank.
 pub fn play_long(monitor: &impl Monitor, seed: u64, count: usize) -> Result<(), String> {
     let mut random = Random::new(seed);
     let book = good_book(&mut random);
-    let mut seen = [0; NUMBERS];
+    let mut seen = Seen::default();
     let mut scene = Scene::new(monitor, &mut seen, random, book);
     scene.history = vec![0; HISTORY_BYTES];
+    scene.levels = scene.levels_given();
     scene
         .run_of(count, count + 1)
         .map_err(|found| format!("seed {seed}: {found}"))
@@ -51,8 +68,12 @@ struct Scene<'a, M: Monitor> {
     book_before: Vec<u8>,
     loaded: reference::Loaded,
     parties: Parties,
-    /// The history of the reference; both monitors start each call from it.
+    /// The history and the levels of the reference; both monitors start each
+    /// call from them.
     history: Vec<u8>,
+    levels: Vec<u8>,
+    /// In so many of a hundred calls the levels have another length.
+    wrong_levels: usize,
     calls: usize,
 }
 
@@ -72,6 +93,26 @@ fn kept(call: &str, what: &str, lent: &Lent, bytes: &[u8]) -> Result<(), String>
     Err(format!("{call} left other bytes in the {what}"))
 }
 
+/// History and levels, each with guard bytes.
+struct LentBuffers {
+    history: Lent,
+    levels: Lent,
+}
+
+impl LentBuffers {
+    fn new(bytes: &Buffers) -> LentBuffers {
+        LentBuffers {
+            history: Lent::new(&bytes.history),
+            levels: Lent::new(&bytes.levels),
+        }
+    }
+
+    fn kept(&self, call: &str, bytes: &Buffers) -> Result<(), String> {
+        kept(call, "history", &self.history, &bytes.history)?;
+        kept(call, "levels", &self.levels, &bytes.levels)
+    }
+}
+
 impl<'a, M: Monitor> Scene<'a, M> {
     fn new(monitor: &'a M, seen: &'a mut Seen, mut random: Random, book: Vec<u8>) -> Self {
         let loaded = reference::load(&book);
@@ -84,6 +125,8 @@ impl<'a, M: Monitor> Scene<'a, M> {
             book_before: book,
             loaded,
             history: Vec::new(),
+            levels: Vec::new(),
+            wrong_levels: 0,
             calls: 0,
         }
     }
@@ -93,6 +136,7 @@ impl<'a, M: Monitor> Scene<'a, M> {
         self.rest()?;
         let dense = self.random.chance(1);
         self.history = self.first_history(dense);
+        self.levels = self.first_levels();
         let calls = if dense { DENSE_CALLS } else { CALLS };
         for _ in 0..calls {
             self.some_call()?;
@@ -112,10 +156,56 @@ impl<'a, M: Monitor> Scene<'a, M> {
         history
     }
 
+    /// The levels that the history gives.
+    fn levels_given(&self) -> Vec<u8> {
+        let given = levels_by_history(&self.loaded.tables, &set_of(&self.history));
+        let mut levels = vec![0; LEVELS_BYTES];
+        write_levels(&given, &mut levels);
+        levels
+    }
+
+    /// The levels that the history gives, or others: with a bit of many declared
+    /// persons and of some others changed, or any.
+    fn first_levels(&mut self) -> Vec<u8> {
+        let mut levels = self.levels_given();
+        let any = self.random.chance(4);
+        if any {
+            levels.fill_with(|| self.random.byte());
+        } else if self.random.chance(55) {
+            for person in 0..64 {
+                let declared = self.loaded.tables.person_declared(person);
+                if self.random.chance(if declared { 60 } else { 10 }) {
+                    let at = 2 * usize::from(person) + self.random.below(2);
+                    levels[at] ^= 1 << self.random.below(8);
+                }
+            }
+        }
+        levels
+    }
+
+    /// Whether the levels of all declared persons are those that the history
+    /// gives.
+    fn count_levels(&mut self) {
+        let (given, tables) = (self.levels_given(), &self.loaded.tables);
+        let agrees = |person: &u8| {
+            let at = 2 * usize::from(*person);
+            given[at..at + 2] == self.levels[at..at + 2]
+        };
+        let mut declared = (0..64).filter(|person| tables.person_declared(*person));
+        if self.loaded.number == 0 {
+            self.seen.levels[usize::from(declared.all(|person| agrees(&person)))] += 1;
+        }
+    }
+
+    /// Now and then somebody else stores a level.
     fn some_call(&mut self) -> Result<(), String> {
+        if self.random.chance(1) {
+            let at = 2 * usize::from(self.parties.person(&mut self.random) % 64);
+            self.levels[at + self.random.below(2)] ^= 1 << self.random.below(8);
+        }
         match self.random.below(100) {
-            0 => self.blank(),
-            1..=30 => self.judge(),
+            0..=1 => self.blank(),
+            2..=30 => self.judge(),
             31..=70 => self.put(),
             71..=85 => self.run(),
             _ => self.standing(),
@@ -125,18 +215,25 @@ impl<'a, M: Monitor> Scene<'a, M> {
     /// Counts a call by its number, and checks the bytes of the book.
     fn ended(&mut self, call: &str, number: u8) -> Result<(), String> {
         self.calls += 1;
-        self.seen[usize::from(number)] += 1;
+        self.seen.numbers[usize::from(number)] += 1;
         kept(call, "book", &self.book, &self.book_before)
     }
 
-    /// The history, or now and then bytes of another length.
-    fn some_history(&mut self) -> Vec<u8> {
-        if !self.random.chance(4) {
-            return self.history.clone();
+    /// The bytes, or in so many of a hundred calls bytes of another length.
+    fn some_lent(&mut self, bytes: Vec<u8>, wrong: usize) -> Vec<u8> {
+        if !self.random.chance(wrong) {
+            return bytes;
         }
-        let near = HISTORY_BYTES + self.random.below(4) - 2;
-        let length = self.random.pick(&[0, 1, near, 2 * HISTORY_BYTES]);
+        let near = bytes.len() + self.random.pick(&[0, 1, 3, 4]) - 2;
+        let length = self.random.pick(&[0, 1, near, 2 * bytes.len()]);
         (0..length).map(|_| self.random.byte()).collect()
+    }
+
+    fn some_buffers(&mut self) -> Buffers {
+        Buffers {
+            history: self.some_lent(self.history.clone(), 4),
+            levels: self.some_lent(self.levels.clone(), self.wrong_levels),
+        }
     }
 
     /// What the reference gives: the number of a refused book first.
@@ -144,10 +241,11 @@ impl<'a, M: Monitor> Scene<'a, M> {
         (self.loaded.number != 0).then_some(self.loaded.number)
     }
 
-    /// Keeps what the reference left, where it was the scene's history.
-    fn keep(&mut self, history: Vec<u8>) {
-        if history.len() == HISTORY_BYTES {
-            self.history = history;
+    /// Keeps what the reference left, where it was of the right lengths.
+    fn keep(&mut self, left: Buffers) {
+        if left.history.len() == HISTORY_BYTES && left.levels.len() == LEVELS_BYTES {
+            self.history = left.history;
+            self.levels = left.levels;
         }
     }
 
@@ -168,42 +266,50 @@ impl<'a, M: Monitor> Scene<'a, M> {
     }
 
     fn blank(&mut self) -> Result<(), String> {
-        let mut theirs = self.some_history();
-        let mut ours = Lent::new(&theirs);
-        let number = reference::blank(&mut theirs);
-        same("blank", self.monitor.blank(ours.bytes_mut()), number)?;
-        kept("blank", "history", &ours, &theirs)?;
+        let mut theirs = self.some_buffers();
+        let mut ours = LentBuffers::new(&theirs);
+        let number = self.refused_book().unwrap_or_else(|| {
+            let tables = &self.loaded.tables;
+            reference::blank(tables, &mut theirs.history, &mut theirs.levels)
+        });
+        let (history, levels) = (ours.history.bytes_mut(), ours.levels.bytes_mut());
+        let given = self.monitor.blank(self.book.bytes(), history, levels);
+        same("blank", given, number)?;
+        ours.kept("blank", &theirs)?;
         self.keep(theirs);
         self.ended("blank", number)
     }
 
     fn judge(&mut self) -> Result<(), String> {
-        let history = self.some_history();
+        let theirs = self.some_buffers();
         let request = self.parties.request(&mut self.random);
-        let (lent, asked) = (Lent::new(&history), Lent::new(&request));
-        let book = self.book.bytes();
+        let (mut ours, asked) = (LentBuffers::new(&theirs), Lent::new(&request));
         let number = self
             .refused_book()
-            .unwrap_or_else(|| reference::judge(&self.loaded.tables, &history, &request));
-        let ours = self.monitor.judge(book, lent.bytes(), asked.bytes());
-        same("judge", ours, number)?;
-        kept("judge", "history", &lent, &history)?;
+            .unwrap_or_else(|| theirs.judge(&self.loaded.tables, &request));
+        let (history, levels) = (ours.history.bytes(), ours.levels.bytes_mut());
+        let given = self
+            .monitor
+            .judge(self.book.bytes(), history, levels, asked.bytes());
+        same("judge", given, number)?;
+        ours.kept("judge", &theirs)?;
         kept("judge", "request", &asked, &request)?;
         self.ended("judge", number)
     }
 
     fn put(&mut self) -> Result<(), String> {
-        let mut theirs = self.some_history();
+        let mut theirs = self.some_buffers();
         let request = self.parties.request(&mut self.random);
-        let (mut ours, asked) = (Lent::new(&theirs), Lent::new(&request));
+        let (mut ours, asked) = (LentBuffers::new(&theirs), Lent::new(&request));
         let number = self
             .refused_book()
-            .unwrap_or_else(|| reference::put(&self.loaded.tables, &mut theirs, &request));
+            .unwrap_or_else(|| theirs.put(&self.loaded.tables, &request));
+        let (history, levels) = (ours.history.bytes_mut(), ours.levels.bytes_mut());
         let given = self
             .monitor
-            .put(self.book.bytes(), ours.bytes_mut(), asked.bytes());
+            .put(self.book.bytes(), history, levels, asked.bytes());
         same("put", given, number)?;
-        kept("put", "history", &ours, &theirs)?;
+        ours.kept("put", &theirs)?;
         kept("put", "request", &asked, &request)?;
         self.keep(theirs);
         self.ended("put", number)
@@ -218,47 +324,37 @@ impl<'a, M: Monitor> Scene<'a, M> {
 
     /// A run of so many records, with so much room for answers.
     fn run_of(&mut self, count: usize, room: usize) -> Result<(), String> {
-        let mut theirs = self.some_history();
+        let mut theirs = self.some_buffers();
         let requests = self.parties.requests(&mut self.random, count);
         let mut their_answers: Vec<u8> = (0..room).map(|_| self.random.byte()).collect();
-        let (mut ours, asked) = (Lent::new(&theirs), Lent::new(&requests));
+        let (mut ours, asked) = (LentBuffers::new(&theirs), Lent::new(&requests));
         let mut our_answers = Lent::new(&their_answers);
         let ran = match self.refused_book() {
-            Some(number) => reference::Ran {
-                number,
-                granted: 0,
-                refused: 0,
-            },
-            None => reference::run(
-                &self.loaded.tables,
-                &mut theirs,
-                &requests,
-                &mut their_answers,
-            ),
+            Some(number) => (number, 0, 0),
+            None => {
+                let ran = theirs.run(&self.loaded.tables, &requests, &mut their_answers);
+                (ran.number, ran.granted, ran.refused)
+            }
         };
         let given = self.monitor.run(
             self.book.bytes(),
-            ours.bytes_mut(),
+            ours.history.bytes_mut(),
+            ours.levels.bytes_mut(),
             asked.bytes(),
             our_answers.bytes_mut(),
         );
-        let due = kweldabe::Ran {
-            number: ran.number,
-            granted: ran.granted,
-            refused: ran.refused,
-        };
-        same("run", given, due)?;
-        kept("run", "history", &ours, &theirs)?;
+        same("run", (given.number, given.granted, given.refused), ran)?;
+        ours.kept("run", &theirs)?;
         kept("run", "requests", &asked, &requests)?;
         kept("run", "answers", &our_answers, &their_answers)?;
         self.keep(theirs);
-        self.ended("run", ran.number)
+        self.ended("run", ran.0)
     }
 
     fn standing(&mut self) -> Result<(), String> {
-        let history = self.some_history();
+        let theirs = self.some_buffers();
         let person = self.parties.person(&mut self.random);
-        let lent = Lent::new(&history);
+        let mut ours = LentBuffers::new(&theirs);
         let found = match self.refused_book() {
             Some(number) => reference::Standing {
                 number,
@@ -266,7 +362,7 @@ impl<'a, M: Monitor> Scene<'a, M> {
                 rights: 0,
                 firms: 0,
             },
-            None => reference::standing(&self.loaded.tables, &history, person),
+            None => theirs.standing(&self.loaded.tables, person),
         };
         let due = kweldabe::Standing {
             number: found.number,
@@ -274,11 +370,12 @@ impl<'a, M: Monitor> Scene<'a, M> {
             rights: found.rights,
             firms: found.firms,
         };
-        let ours = self
+        let (history, levels) = (ours.history.bytes(), ours.levels.bytes_mut());
+        let given = self
             .monitor
-            .standing(self.book.bytes(), lent.bytes(), person);
-        same("standing", ours, due)?;
-        kept("standing", "history", &lent, &history)?;
+            .standing(self.book.bytes(), history, levels, person);
+        same("standing", given, due)?;
+        ours.kept("standing", &theirs)?;
         self.ended("standing", found.number)
     }
 }

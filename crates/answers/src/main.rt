@@ -20,12 +20,13 @@ fn print_lines(answers: &[u8]) {
     }
 }
 
-// Puts the requests from a blank history, and prints the answers and the totals.
+// Puts the requests from a blank history and the first levels, and prints the answers and the totals.
 fn print_answers(t: Tables, requests: &[u8]) {
     let mut history = [0u8; history::BYTES];
+    let mut levels = [0u8; levels::BYTES];
     let mut answers = [0u8; 21846];
-    monitor::blank(&mut history);
-    let ran = monitor::run(t, &mut history, requests, &mut answers);
+    monitor::blank(t, &mut history, &mut levels);
+    let ran = monitor::run(t, &mut history, &mut levels, requests, &mut answers);
     let due = ran.granted + ran.refused;
     print_lines(&answers[..due]);
     let mut out = [0u8; 64];

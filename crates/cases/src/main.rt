@@ -1,6 +1,6 @@
 // The program `cases`: plays a file of calls from standard input on the monitor, and prints a line for each call on standard output.
 // The format of the file and of the lines is that of reference/FORMAT.md; nothing is judged here. Of a longer input it takes the first
-// 327,680 bytes.
+// 393,216 bytes.
 use libc::STDIN_FILENO;
 use policy::Tables;
 
@@ -11,6 +11,9 @@ mod reading;
 
 // The bytes of the history buffer.
 const HISTORY: usize = 18960;
+
+// The bytes of the level buffer.
+const LEVELS: usize = 144;
 
 // Loads a book, prints its line, and answers the tables.
 fn play_load(book: &[u8]) -> Tables {
@@ -27,38 +30,43 @@ fn play_load(book: &[u8]) -> Tables {
     t
 }
 
-// Blanks a history and prints its line.
-fn play_blank(s: &[u8], h: &mut [u8]) {
+// Blanks a history and levels, and prints its line.
+fn play_blank(t: Tables, s: &[u8], h: &mut [u8], l: &mut [u8]) {
     let front = reading::front(reading::pair(s, 1), h);
-    let number = monitor::blank(&mut h[..front]);
-    let numbers = [number as u64, digest::of_bytes(h)];
+    let held = reading::front(bits::wide(reading::byte(s, 3)), l);
+    let number = monitor::blank(t, &mut h[..front], &mut l[..held]);
+    let numbers = [number as u64, digest::of_bytes(h), digest::of_bytes(l)];
     line::print(b"blank", &numbers);
 }
 
 // Judges a request and prints its line.
-fn play_judge(t: Tables, s: &[u8], h: &[u8]) {
+fn play_judge(t: Tables, s: &[u8], h: &[u8], l: &[u8]) {
     let front = reading::front(reading::pair(s, 1), h);
-    let number = monitor::judge(t, &h[..front], reading::after(s, 4));
+    let held = reading::front(bits::wide(reading::byte(s, 3)), l);
+    let number = monitor::judge(t, &h[..front], &l[..held], reading::after(s, 5));
     let numbers = [number as u64];
     line::print(b"judge", &numbers);
 }
 
 // Puts a request and prints its line.
-fn play_put(t: Tables, s: &[u8], h: &mut [u8]) {
+fn play_put(t: Tables, s: &[u8], h: &mut [u8], l: &mut [u8]) {
     let front = reading::front(reading::pair(s, 1), h);
-    let number = monitor::put(t, &mut h[..front], reading::after(s, 4));
-    let numbers = [number as u64, digest::of_bytes(h)];
+    let held = reading::front(bits::wide(reading::byte(s, 3)), l);
+    let number = monitor::put(t, &mut h[..front], &mut l[..held], reading::after(s, 5));
+    let numbers = [number as u64, digest::of_bytes(h), digest::of_bytes(l)];
     line::print(b"put", &numbers);
 }
 
 // Runs requests and prints the run's line.
-fn play_run(t: Tables, s: &[u8], h: &mut [u8], answers: &mut [u8]) {
+fn play_run(t: Tables, s: &[u8], h: &mut [u8], l: &mut [u8], answers: &mut [u8]) {
     let front = reading::front(reading::pair(s, 1), h);
-    let room = reading::front(reading::pair(s, 3), answers);
+    let held = reading::front(bits::wide(reading::byte(s, 3)), l);
+    let room = reading::front(reading::pair(s, 4), answers);
     let ran = monitor::run(
         t,
         &mut h[..front],
-        reading::after(s, 7),
+        &mut l[..held],
+        reading::after(s, 8),
         &mut answers[..room],
     );
     let numbers = [
@@ -66,15 +74,17 @@ fn play_run(t: Tables, s: &[u8], h: &mut [u8], answers: &mut [u8]) {
         ran.granted as u64,
         ran.refused as u64,
         digest::of_bytes(h),
+        digest::of_bytes(l),
         digest::of_bytes(answers),
     ];
     line::print(b"run", &numbers);
 }
 
 // Asks for a person's standing and prints its line.
-fn play_standing(t: Tables, s: &[u8], h: &[u8]) {
+fn play_standing(t: Tables, s: &[u8], h: &[u8], l: &[u8]) {
     let front = reading::front(reading::pair(s, 1), h);
-    let found = monitor::standing(t, &h[..front], reading::byte(s, 3));
+    let held = reading::front(bits::wide(reading::byte(s, 3)), l);
+    let found = monitor::standing(t, &h[..front], &l[..held], reading::byte(s, 4));
     let level = found.level;
     let numbers = [
         found.number as u64,
@@ -93,6 +103,14 @@ fn play_byte(s: &[u8], h: &mut [u8]) {
     }
 }
 
+// Sets one byte of the level buffer.
+fn play_level_byte(s: &[u8], l: &mut [u8]) {
+    let at = bits::wide(reading::byte(s, 1)) % LEVELS;
+    if at < l.len() {
+        l[at] = reading::byte(s, 2);
+    }
+}
+
 // Sets every byte of the answer buffer.
 fn play_fill(value: u8, answers: &mut [u8]) {
     let mut i = 0;
@@ -103,21 +121,22 @@ fn play_fill(value: u8, answers: &mut [u8]) {
 }
 
 // Plays a command that leaves the tables as they are.
-fn play_call(t: Tables, s: &[u8], h: &mut [u8], answers: &mut [u8]) {
+fn play_call(t: Tables, s: &[u8], h: &mut [u8], l: &mut [u8], answers: &mut [u8]) {
     match reading::byte(s, 0) {
-        2 => play_blank(s, h),
-        3 => play_judge(t, s, h),
-        4 => play_put(t, s, h),
-        5 => play_run(t, s, h, answers),
-        6 => play_standing(t, s, h),
+        2 => play_blank(t, s, h, l),
+        3 => play_judge(t, s, h, l),
+        4 => play_put(t, s, h, l),
+        5 => play_run(t, s, h, l, answers),
+        6 => play_standing(t, s, h, l),
         8 => play_byte(s, h),
         9 => play_fill(reading::byte(s, 1), answers),
+        10 => play_level_byte(s, l),
         _ => (),
     }
 }
 
 // Plays a command, and answers the tables after it.
-fn play(t: Tables, s: &[u8], h: &mut [u8], answers: &mut [u8]) -> Tables {
+fn play(t: Tables, s: &[u8], h: &mut [u8], l: &mut [u8], answers: &mut [u8]) -> Tables {
     let kind = reading::byte(s, 0);
     if kind == 1 {
         return play_load(reading::after(s, 3));
@@ -130,12 +149,12 @@ fn play(t: Tables, s: &[u8], h: &mut [u8], answers: &mut [u8]) -> Tables {
             reading::number(s, 3),
         );
     }
-    play_call(t, s, h, answers);
+    play_call(t, s, h, l, answers);
     t
 }
 
 // Plays the commands one after another, from the tables of the empty book.
-fn play_all(calls: &[u8], h: &mut [u8], answers: &mut [u8]) {
+fn play_all(calls: &[u8], h: &mut [u8], l: &mut [u8], answers: &mut [u8]) {
     let start = monitor::load(b"");
     let mut t = start.tables;
     let mut at = 0;
@@ -145,16 +164,17 @@ fn play_all(calls: &[u8], h: &mut [u8], answers: &mut [u8]) {
             return;
         }
         let next = at + len;
-        let u = play(t, &calls[at..next], h, answers);
+        let u = play(t, &calls[at..next], h, l, answers);
         t = u;
         at = next;
     }
 }
 
 fn main() {
-    let mut calls = [0u8; 327680];
+    let mut calls = [0u8; 393216];
     let mut history = [0u8; HISTORY];
+    let mut levels = [0u8; LEVELS];
     let mut answers = [0u8; 4096];
     let n = io::read_full(STDIN_FILENO, &mut calls);
-    play_all(&calls[..n], &mut history, &mut answers);
+    play_all(&calls[..n], &mut history, &mut levels, &mut answers);
 }

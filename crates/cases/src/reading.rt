@@ -53,14 +53,15 @@ pub fn number(s: &[u8], at: usize) -> u64 {
 fn needed(s: &[u8]) -> usize {
     match byte(s, 0) {
         1 => 3 + pair(s, 1),
-        2 => 3,
-        3 => 4 + bits::wide(byte(s, 3)),
-        4 => 4 + bits::wide(byte(s, 3)),
-        5 => 7 + pair(s, 5),
-        6 => 4,
+        2 => 4,
+        3 => 5 + bits::wide(byte(s, 4)),
+        4 => 5 + bits::wide(byte(s, 4)),
+        5 => 8 + pair(s, 6),
+        6 => 5,
         7 => 11,
         8 => 4,
         9 => 2,
+        10 => 3,
         _ => 0,
     }
 }

@@ -7,18 +7,20 @@ use borrow.Author.Tests.{eq-eqb, ne-eqb}
 use Rattle.policy.specs.declared.Loaded.{Loaded}
 use Rattle.policy.specs.declared.Ran.{Ran}
 use Rattle.policy.specs.declared.Standing.{Standing}
-use Rattle.policy.specs.Calls.{judgeNumber, putHistory, standing}
+use Rattle.policy.specs.Calls.{State, blankNumber, blankState, judgeNumber, putState, standing}
 use Rattle.monitor.specs.Refused.{noRun, noStanding, RunIs}
 use Rattle.exports.specs.Packed.{
   packedLoad,
   packedRun,
   packedStanding,
   loadPacked,
+  blankBy,
+  blankedBy,
   judgeBy,
   putBy,
   ranPacked,
   ranBy,
-  historyBy,
+  stateBy,
   answersBy,
   RunBy,
   standingPacked,
@@ -31,50 +33,59 @@ module _ {l m : Loaded} (same : l ≡ m) where
   load-packed = rw (← same)
 
   module _ (bad : l .number ≢ 0) where
-    pub judge-refused : (h request : List ℕ) → l .number ≡ judgeBy m h request
+    pub blank-refused : (a : State) → (l .number ≡ blankBy m a) × (a ≡ blankedBy m a)
+    unfolding blankBy blankedBy
+    blank-refused a = (rw (← same, ne-eqb (l .number) 0 bad), rw (← same, ne-eqb (l .number) 0 bad))
+
+    pub judge-refused : (a : State) (request : List ℕ) → l .number ≡ judgeBy m a request
     unfolding judgeBy
-    judge-refused h request = rw (← same, ne-eqb (l .number) 0 bad)
+    judge-refused a request = rw (← same, ne-eqb (l .number) 0 bad)
 
-    pub put-refused : (h request : List ℕ) → h ≡ putBy m h request
+    pub put-refused : (a : State) (request : List ℕ) → a ≡ putBy m a request
     unfolding putBy
-    put-refused h request = rw (← same, ne-eqb (l .number) 0 bad)
+    put-refused a request = rw (← same, ne-eqb (l .number) 0 bad)
 
-    pub run-refused : (h requests lent : List ℕ) (r : ℕ) → r ≡ packedRun (l .number) 0 0 → RunBy m h requests lent r h lent
-    unfolding ranPacked ranBy historyBy answersBy noRun
-    run-refused h requests lent r packed = record {
+    pub run-refused : (a : State) (requests lent : List ℕ) (r : ℕ) → r ≡ packedRun (l .number) 0 0 → RunBy m a requests lent r a lent
+    unfolding ranPacked ranBy stateBy answersBy noRun
+    run-refused a requests lent r packed = record {
       returned = packed ∙ rw (← same, ne-eqb (l .number) 0 bad);
       after = rw (← same, ne-eqb (l .number) 0 bad);
       answers = rw (← same, ne-eqb (l .number) 0 bad);
     }
 
-    pub standing-refused : (h : List ℕ) (person : ℕ) → packedStanding (l .number) 0 0 0 ≡ standingPacked (standingBy m h person)
+    pub standing-refused : (a : State) (person : ℕ) → packedStanding (l .number) 0 0 0 ≡ standingPacked (standingBy m a person)
     unfolding standingPacked standingBy noStanding
-    standing-refused h person = rw (← same, ne-eqb (l .number) 0 bad)
+    standing-refused a person = rw (← same, ne-eqb (l .number) 0 bad)
 
   module _ (good : l .number ≡ 0) where
-    pub judge-loaded : (h request : List ℕ) → judgeNumber (l .tables) h request ≡ judgeBy m h request
-    unfolding judgeBy
-    judge-loaded h request = rw (← same, eq-eqb (l .number) 0 good)
+    pub blank-loaded : (a b : State) (n : ℕ) → (n ≡ blankNumber (l .tables) a) × (b ≡ blankState (l .tables) a)
+        → (n ≡ blankBy m a) × (b ≡ blankedBy m a)
+    unfolding blankBy blankedBy
+    blank-loaded a b n (e, f) = (e ∙ rw (← same, eq-eqb (l .number) 0 good), f ∙ rw (← same, eq-eqb (l .number) 0 good))
 
-    pub put-loaded : (h request : List ℕ) → putHistory (l .tables) h request ≡ putBy m h request
+    pub judge-loaded : (a : State) (request : List ℕ) → judgeNumber (l .tables) a request ≡ judgeBy m a request
+    unfolding judgeBy
+    judge-loaded a request = rw (← same, eq-eqb (l .number) 0 good)
+
+    pub put-loaded : (a : State) (request : List ℕ) → putState (l .tables) a request ≡ putBy m a request
     unfolding putBy
-    put-loaded h request = rw (← same, eq-eqb (l .number) 0 good)
+    put-loaded a request = rw (← same, eq-eqb (l .number) 0 good)
 
     pub run-loaded :
-        (h requests lent : List ℕ) (x : Ran) (r : ℕ) (left written : List ℕ)
-        → RunIs (l .tables) h requests lent x left written
+        (a : State) (requests lent : List ℕ) (x : Ran) (r : ℕ) (left : State) (written : List ℕ)
+        → RunIs (l .tables) a requests lent x left written
         → r ≡ packedRun (x .number) (x .granted) (x .refused)
-        → RunBy m h requests lent r left written
-    unfolding ranPacked ranBy historyBy answersBy
-    run-loaded h requests lent x r left written is packed = record {
+        → RunBy m a requests lent r left written
+    unfolding ranPacked ranBy stateBy answersBy
+    run-loaded a requests lent x r left written is packed = record {
       returned = packed ∙ rw (← same, eq-eqb (l .number) 0 good, is .returned);
       after = is .after ∙ rw (← same, eq-eqb (l .number) 0 good);
       answers = is .answers ∙ rw (← same, eq-eqb (l .number) 0 good);
     }
 
     pub standing-loaded :
-        (h : List ℕ) (person : ℕ) (x : Standing)
-        → x ≡ standing (l .tables) h person
-        → packedStanding (x .number) (x .level .0) (x .rights) (x .firms) ≡ standingPacked (standingBy m h person)
+        (a : State) (person : ℕ) (x : Standing)
+        → x ≡ standing (l .tables) a person
+        → packedStanding (x .number) (x .level .0) (x .rights) (x .firms) ≡ standingPacked (standingBy m a person)
     unfolding standingPacked standingBy
-    standing-loaded h person x is = rw (← same, eq-eqb (l .number) 0 good, is)
+    standing-loaded a person x is = rw (← same, eq-eqb (l .number) 0 good, is)

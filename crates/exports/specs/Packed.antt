@@ -8,7 +8,7 @@ use lib.Dec.{eqb}
 use Rattle.policy.specs.declared.Loaded.{Loaded}
 use Rattle.policy.specs.declared.Ran.{Ran}
 use Rattle.policy.specs.declared.Standing.{Standing}
-use Rattle.policy.specs.Calls.{judgeNumber, putHistory, ran, runHistory, runAnswers, standing}
+use Rattle.policy.specs.Calls.{State, blankNumber, blankState, judgeNumber, putState, ran, runState, runAnswers, standing}
 use Rattle.monitor.specs.Refused.{noRun, noStanding}
 
 -- number in bits 0 to 7, offset modulo 2^56 in bits 8 to 63
@@ -26,32 +26,38 @@ packedStanding number level rights firms = number + 256 * level + 16777216 * (ri
 unfoldable pub loadPacked : Loaded → ℕ
 loadPacked l = packedLoad (l .number) (l .offset)
 
-unfoldable pub judgeBy : Loaded → List ℕ → List ℕ → ℕ
-judgeBy l h request = cond (eqb (l .number) 0) (judgeNumber (l .tables) h request) (l .number)
+unfoldable pub blankBy : Loaded → State → ℕ
+blankBy l a = cond (eqb (l .number) 0) (blankNumber (l .tables) a) (l .number)
 
-unfoldable pub putBy : Loaded → List ℕ → List ℕ → List ℕ
-putBy l h request = cond (eqb (l .number) 0) (putHistory (l .tables) h request) h
+unfoldable pub blankedBy : Loaded → State → State
+blankedBy l a = cond (eqb (l .number) 0) (blankState (l .tables) a) a
+
+unfoldable pub judgeBy : Loaded → State → List ℕ → ℕ
+judgeBy l a request = cond (eqb (l .number) 0) (judgeNumber (l .tables) a request) (l .number)
+
+unfoldable pub putBy : Loaded → State → List ℕ → State
+putBy l a request = cond (eqb (l .number) 0) (putState (l .tables) a request) a
 
 unfoldable pub ranPacked : Ran → ℕ
 ranPacked r = packedRun (r .number) (r .granted) (r .refused)
 
-unfoldable pub ranBy : Loaded → List ℕ → List ℕ → List ℕ → Ran
-ranBy l h requests lent = cond (eqb (l .number) 0) (ran (l .tables) h requests lent) (noRun (l .number))
+unfoldable pub ranBy : Loaded → State → List ℕ → List ℕ → Ran
+ranBy l a requests lent = cond (eqb (l .number) 0) (ran (l .tables) a requests lent) (noRun (l .number))
 
-unfoldable pub historyBy : Loaded → List ℕ → List ℕ → List ℕ → List ℕ
-historyBy l h requests lent = cond (eqb (l .number) 0) (runHistory (l .tables) h requests lent) h
+unfoldable pub stateBy : Loaded → State → List ℕ → List ℕ → State
+stateBy l a requests lent = cond (eqb (l .number) 0) (runState (l .tables) a requests lent) a
 
-unfoldable pub answersBy : Loaded → List ℕ → List ℕ → List ℕ → List ℕ
-answersBy l h requests lent = cond (eqb (l .number) 0) (runAnswers (l .tables) h requests lent) lent
+unfoldable pub answersBy : Loaded → State → List ℕ → List ℕ → List ℕ
+answersBy l a requests lent = cond (eqb (l .number) 0) (runAnswers (l .tables) a requests lent) lent
 
--- what a run by a book returns, and the history and the answer bytes afterwards
-pub record RunBy (l : Loaded) (h requests lent : List ℕ) (r : ℕ) (left written : List ℕ) : Type 0 where
-  pub returned : r ≡ ranPacked (ranBy l h requests lent)
-  pub after : left ≡ historyBy l h requests lent
-  pub answers : written ≡ answersBy l h requests lent
+-- what a run by a book returns, and the history, the levels and the answer bytes afterwards
+pub record RunBy (l : Loaded) (a : State) (requests lent : List ℕ) (r : ℕ) (left : State) (written : List ℕ) : Type 0 where
+  pub returned : r ≡ ranPacked (ranBy l a requests lent)
+  pub after : left ≡ stateBy l a requests lent
+  pub answers : written ≡ answersBy l a requests lent
 
 unfoldable pub standingPacked : Standing → ℕ
 standingPacked s = packedStanding (s .number) (s .level .0) (s .rights) (s .firms)
 
-unfoldable pub standingBy : Loaded → List ℕ → ℕ → Standing
-standingBy l h person = cond (eqb (l .number) 0) (standing (l .tables) h person) (noStanding (l .number))
+unfoldable pub standingBy : Loaded → State → ℕ → Standing
+standingBy l a person = cond (eqb (l .number) 0) (standing (l .tables) a person) (noStanding (l .number))

@@ -3,12 +3,14 @@
 ghost use mathlib.Core.Path.{_≡_};
 ghost use lib.ListN.{length};
 ghost use Rattle.policy.specs.Rulebook.{loadBook};
-ghost use Rattle.policy.specs.Calls.{blankNumber, blankHistory, restOf};
+ghost use Rattle.policy.specs.Calls.{state, restOf};
 ghost use Rattle.exports.specs.Packed.{
   packedLoad,
   packedRun,
   packedStanding,
   loadPacked,
+  blankBy,
+  blankedBy,
   judgeBy,
   putBy,
   RunBy,
@@ -43,14 +45,20 @@ fn pack_standing(number: u8, level: u16, rights: u32, firms: u32) -> u64
         + 4294967296 * (firms as u64 % 256)
 }
 
-// Makes a history blank: 0 or 10.
+// Makes a history all zero, and stores each person's first level: 0, 10 or 20.
 #[no_mangle]
-pub extern "C" fn kweldabe_blank(history: &mut [u8]) -> u8
+pub extern "C" fn kweldabe_blank(book: &[u8], history: &mut [u8], levels: &mut [u8]) -> u8
     ensures { λ r. ⌜
-        (r ≡ blankNumber (now (history .entry))) × (now (history .exit) ≡ blankHistory (now (history .entry)))
+        (r ≡ blankBy (loadBook (now (book .entry))) (state (now (history .entry)) (now (levels .entry))))
+        × (state (now (history .exit)) (now (levels .exit))
+        ≡ blankedBy (loadBook (now (book .entry))) (state (now (history .entry)) (now (levels .entry))))
         ⌝ }
 {
-    monitor::blank(history)
+    let loaded = monitor::load(book);
+    if loaded.number != numbers::GRANTED {
+        return loaded.number;
+    }
+    monitor::blank(loaded.tables, history, levels)
 }
 
 // Loads a book: its number, and the offset of the end record or the refused one.
@@ -73,29 +81,37 @@ pub extern "C" fn kweldabe_rest_length(book: &[u8]) -> usize
 
 // The number of the request at the front of the bytes; nothing is recorded.
 #[no_mangle]
-pub extern "C" fn kweldabe_judge(book: &[u8], history: &[u8], request: &[u8]) -> u8
-    ensures { λ r. ⌜ r ≡ judgeBy (loadBook (now (book .entry))) (now (history .entry)) (now (request .entry)) ⌝ }
-{
-    let loaded = monitor::load(book);
-    if loaded.number != numbers::GRANTED {
-        return loaded.number;
-    }
-    monitor::judge(loaded.tables, history, request)
-}
-
-// Judges the request at the front of the bytes, and records it if it is granted.
-#[no_mangle]
-pub extern "C" fn kweldabe_put(book: &[u8], history: &mut [u8], request: &[u8]) -> u8
+pub extern "C" fn kweldabe_judge(book: &[u8], history: &[u8], levels: &[u8], request: &[u8]) -> u8
     ensures { λ r. ⌜
-        (r ≡ judgeBy (loadBook (now (book .entry))) (now (history .entry)) (now (request .entry)))
-        × (now (history .exit) ≡ putBy (loadBook (now (book .entry))) (now (history .entry)) (now (request .entry)))
+        r ≡ judgeBy (loadBook (now (book .entry))) (state (now (history .entry)) (now (levels .entry))) (now (request .entry))
         ⌝ }
 {
     let loaded = monitor::load(book);
     if loaded.number != numbers::GRANTED {
         return loaded.number;
     }
-    monitor::put(loaded.tables, history, request)
+    monitor::judge(loaded.tables, history, levels, request)
+}
+
+// Judges the request at the front of the bytes; a granted one is recorded, and a granted read or step lowers its person's level.
+#[no_mangle]
+pub extern "C" fn kweldabe_put(
+    book: &[u8],
+    history: &mut [u8],
+    levels: &mut [u8],
+    request: &[u8],
+) -> u8
+    ensures { λ r. ⌜
+        (r ≡ judgeBy (loadBook (now (book .entry))) (state (now (history .entry)) (now (levels .entry))) (now (request .entry)))
+        × (state (now (history .exit)) (now (levels .exit))
+        ≡ putBy (loadBook (now (book .entry))) (state (now (history .entry)) (now (levels .entry))) (now (request .entry)))
+        ⌝ }
+{
+    let loaded = monitor::load(book);
+    if loaded.number != numbers::GRANTED {
+        return loaded.number;
+    }
+    monitor::put(loaded.tables, history, levels, request)
 }
 
 // Puts the requests of the bytes one after another, and writes one answer byte for each.
@@ -103,34 +119,36 @@ pub extern "C" fn kweldabe_put(book: &[u8], history: &mut [u8], request: &[u8]) 
 pub extern "C" fn kweldabe_run(
     book: &[u8],
     history: &mut [u8],
+    levels: &mut [u8],
     requests: &[u8],
     answers: &mut [u8],
 ) -> u64
     ensures { λ r. ⌜
-        RunBy (loadBook (now (book .entry))) (now (history .entry)) (now (requests .entry)) (now (answers .entry))
-        r (now (history .exit)) (now (answers .exit))
+        RunBy (loadBook (now (book .entry))) (state (now (history .entry)) (now (levels .entry))) (now (requests .entry))
+        (now (answers .entry)) r (state (now (history .exit)) (now (levels .exit))) (now (answers .exit))
         ⌝ }
 {
     let loaded = monitor::load(book);
     if loaded.number != numbers::GRANTED {
         return pack_run(loaded.number, 0, 0);
     }
-    let ran = monitor::run(loaded.tables, history, requests, answers);
+    let ran = monitor::run(loaded.tables, history, levels, requests, answers);
     pack_run(ran.number, ran.granted, ran.refused)
 }
 
-// A person's current level, the number of rights used and the number of firms opened.
+// A person's stored level, the number of rights used and the number of firms opened.
 #[no_mangle]
-pub extern "C" fn kweldabe_standing(book: &[u8], history: &[u8], person: u8) -> u64
+pub extern "C" fn kweldabe_standing(book: &[u8], history: &[u8], levels: &[u8], person: u8) -> u64
     ensures { λ r. ⌜
-        r ≡ standingPacked (standingBy (loadBook (now (book .entry))) (now (history .entry)) person)
+        r
+        ≡ standingPacked (standingBy (loadBook (now (book .entry))) (state (now (history .entry)) (now (levels .entry))) person)
         ⌝ }
 {
     let loaded = monitor::load(book);
     if loaded.number != numbers::GRANTED {
         return pack_standing(loaded.number, 0, 0, 0);
     }
-    let found = monitor::standing(loaded.tables, history, person);
+    let found = monitor::standing(loaded.tables, history, levels, person);
     let level = found.level;
     pack_standing(found.number, level.0, found.rights, found.firms)
 }

@@ -8,11 +8,8 @@ use mathlib.Core.List.{List, _++_, append-nil}
 use lib.ListN.{length, set, drop, List·getD-eq-default, drop-of-length-le}
 use lib.Seq.{set-out}
 use borrow.Author.Fill.{fill-more}
-use borrow.Author.Tests.{eq-eqb, ne-eqb}
 use Rattle.bits.proofs.BitLaws.{bit-zero}
-use Rattle.policy.specs.Checks.{ladder}
-use Rattle.policy.specs.History.{historyBytes, bitAt, withBitAt, zeros}
-use Rattle.policy.specs.Calls.{blankNumber, blankHistory}
+use Rattle.policy.specs.History.{bitAt, withBitAt, zeros}
 
 -- ---- past the end
 
@@ -38,13 +35,3 @@ zeros-more n h l = fill-more n 0 h l
 
 pub zeros-all : (n : ℕ) (h : List ℕ) → length h ≡ n → zeros n ++ drop n h ≡ zeros n
 zeros-all n h e = rw (drop-of-length-le h {i = n} (omega arith)) (append-nil (zeros n))
-
--- ---- blank
-
-pub blank-refused : (h : List ℕ) → (length h ≡ historyBytes → ⊥) → (10 ≡ blankNumber h) × (h ≡ blankHistory h)
-unfolding blankNumber blankHistory ladder
-blank-refused h n = let e = ne-eqb (length h) historyBytes n in (rw e, rw e)
-
-pub blank-made : (h : List ℕ) → length h ≡ historyBytes → (0 ≡ blankNumber h) × (zeros historyBytes ≡ blankHistory h)
-unfolding blankNumber blankHistory ladder
-blank-made h n = let e = eq-eqb (length h) historyBytes n in (rw e, rw e)

@@ -2,10 +2,8 @@
 ghost use mathlib.Core.Path.{_≡_};
 ghost use Prim.Native.Nat.{_+_, _*_, _^_, _≤_, _<_};
 ghost use lib.ListN.{length};
-ghost use Rattle.policy.specs.History.{bitAt, withBitAt};
-ghost use Rattle.policy.specs.Calls.{blankNumber, blankHistory};
+ghost use Rattle.policy.specs.History.{bitAt, withBitAt, zeros};
 ghost use Rattle.history.specs.Words.{bytesAt, wordAt};
-use policy::numbers;
 
 // The bytes of a history.
 pub const BYTES: usize = 18944;
@@ -64,17 +62,13 @@ pub fn set_bit(h: &mut [u8], i: usize)
     h[at] = bits::with_bit8(h[at], i);
 }
 
-// Makes a history blank: 0, or 10 where the length is another, and then nothing changes.
-pub fn blank(h: &mut [u8]) -> u8
-    ensures { λ r. ⌜ (r ≡ blankNumber (now (h .entry))) × (now (h .exit) ≡ blankHistory (now (h .entry))) ⌝ }
+// Makes a history blank: all zero.
+pub fn blank(h: &mut [u8])
+    ensures { λ r. ⌜ now (h .exit) ≡ zeros (length (now (h .entry))) ⌝ }
 {
-    if h.len() != BYTES {
-        return numbers::WRONG_LENGTH;
-    }
     let mut i = 0;
     while i < h.len() {
         h[i] = 0;
         i += 1;
     }
-    numbers::GRANTED
 }

@@ -33,14 +33,13 @@ use Rattle.policy.specs.Rules.{
   right,
   wall,
   wallAccess,
-  currentLevel,
   mayModify,
   lowWater,
   roles,
   pipelineStep,
   pipeline,
 }
-use Rattle.policy.specs.Calls.{requestChecks, judgeOver}
+use Rattle.policy.specs.Calls.{requestChecks, judgeWith}
 use Rattle.policy.proofs.Requests.{declared-person, declared-step, declared-folder}
 use Rattle.past.specs.declared.Past.{Past}
 use Rattle.past.specs.Past.{pastOf}
@@ -48,7 +47,7 @@ use Rattle.rules.specs.Sets.{wallBy, rolesBy}
 use Rattle.rules.proofs.SetLaws.{wall-by, roles-by}
 use Rattle.request.specs.declared.Parsed.{Parsed}
 use Rattle.request.specs.declared.Parsed.the-variants.{Nothing, Access, Start, Step}
-use Rattle.request.specs.Parsed.{accessBy, asRequest, indexOf, nextAfter, nextRecord}
+use Rattle.request.specs.Parsed.{accessBy, asRequest}
 use Rattle.judging.specs.Judging.{
   numberOf,
   asksPast,
@@ -60,8 +59,6 @@ use Rattle.judging.specs.Judging.{
   accessNumber,
   startNumber,
   judged,
-  Answered,
-  AnsweredAt,
 }
 
 -- a part that is the whole
@@ -102,20 +99,20 @@ neither : (a b : Bool) → a || b ≡ false → (a ≡ false) × (b ≡ false)
 neither true b e = absurd (false≢true (sym e))
 neither false b e = (refl, e)
 
-module _ (t : Tables) (H : Request → Bool) (s o new : ℕ) (off : asksPast t ≡ false) where
+module _ (t : Tables) (H : Request → Bool) (levels : ℕ → ℕ) (s o new : ℕ) (off : asksPast t ≡ false) where
   level-decides : (writes : Bool)
-      → accessNumber t H s o new writes
-      ≡ cond (inForce t lowWaterRule implies (writes implies atMost 12 (folderAt t o .level .0) (currentLevel t H s))) 0 15
+      → accessNumber t H levels s o new writes
+      ≡ cond (inForce t lowWaterRule implies (writes implies atMost 12 (folderAt t o .level .0) (levels s))) 0 15
   unfolding asksPast accessNumber numberOf ladder
   level-decides writes = let (a, b) = neither (inForce t wallRule) (inForce t rolesRule) off in rw (a, b)
 
-  pub unasked : (writes : Bool) → asksLevel t writes ≡ false → accessNumber t H s o new writes ≡ 0
+  pub unasked : (writes : Bool) → asksLevel t writes ≡ false → accessNumber t H levels s o new writes ≡ 0
   unfolding asksLevel
   unasked true n = level-decides true ∙ rw n
   unasked false n = level-decides false ∙ rw (implies-true (inForce t lowWaterRule))
 
   pub asked : (writes : Bool) {e : Folder} → asksLevel t writes ≡ true → e ≡ folderAt t o
-      → accessNumber t H s o new writes ≡ cond (atMost 12 (e .level .0) (currentLevel t H s)) 0 15
+      → accessNumber t H levels s o new writes ≡ cond (atMost 12 (e .level .0) (levels s)) 0 15
   unfolding asksLevel
   asked true n same = level-decides true ∙ rw (n, same)
   asked false n same = absurd (false≢true n)
@@ -148,100 +145,100 @@ after-refusal true true false n k = refl
 after-refusal true false c n k = refl
 after-refusal false b c n k = refl
 
-module _ (t : Tables) (H : Request → Bool) where
-  pub not-declared : (r : Request) → declared t r ≡ false → judged t H r ≡ 13
+module _ (t : Tables) (H : Request → Bool) (levels : ℕ → ℕ) where
+  pub not-declared : (r : Request) → declared t r ≡ false → judged t H levels r ≡ 13
   unfolding judged requestChecks ladder
   not-declared r d = rw d
 
   -- wall, low-water and roles decide where the pipeline passes
   by-three : (r : Request) → declared t r ≡ true → pipeline t H r ≡ true
-      → judged t H r ≡ numberOf t (wall t H r) (lowWater t (currentLevel t H) r) (roles t H r)
+      → judged t H levels r ≡ numberOf t (wall t H r) (lowWater t levels r) (roles t H r)
   unfolding judged requestChecks ladder numberOf
   by-three r d p = rw (d, p, implies-true (inForce t pipelineRule))
 
   -- and before it
   pub then-pipeline : (s p o : ℕ) → declared t (step s p o) ≡ true
-      → numberOf t (wall t H (step s p o)) (lowWater t (currentLevel t H) (step s p o)) (roles t H (step s p o)) ≡ 0
-      → judged t H (step s p o) ≡ cond (inForce t pipelineRule implies pipelineStep t H p o) 0 17
+      → numberOf t (wall t H (step s p o)) (lowWater t levels (step s p o)) (roles t H (step s p o)) ≡ 0
+      → judged t H levels (step s p o) ≡ cond (inForce t pipelineRule implies pipelineStep t H p o) 0 17
   unfolding judged requestChecks ladder numberOf pipeline
   then-pipeline s p o d z =
       rw d
       (after-zero (inForce t wallRule implies wall t H (step s p o))
-      (inForce t lowWaterRule implies lowWater t (currentLevel t H) (step s p o))
+      (inForce t lowWaterRule implies lowWater t levels (step s p o))
       (inForce t rolesRule implies roles t H (step s p o))
       (cond (inForce t pipelineRule implies pipelineStep t H p o) 0 17) z)
 
   pub before-pipeline : (s p o n : ℕ) → declared t (step s p o) ≡ true
-      → n ≡ numberOf t (wall t H (step s p o)) (lowWater t (currentLevel t H) (step s p o)) (roles t H (step s p o)) → n ≢ 0
-      → judged t H (step s p o) ≡ n
+      → n ≡ numberOf t (wall t H (step s p o)) (lowWater t levels (step s p o)) (roles t H (step s p o)) → n ≢ 0
+      → judged t H levels (step s p o) ≡ n
   unfolding judged requestChecks ladder numberOf
   before-pipeline s p o n d e k =
       rw d
       (after-refusal (inForce t wallRule implies wall t H (step s p o))
-      (inForce t lowWaterRule implies lowWater t (currentLevel t H) (step s p o))
+      (inForce t lowWaterRule implies lowWater t levels (step s p o))
       (inForce t rolesRule implies roles t H (step s p o))
       (cond (inForce t pipelineRule implies pipeline t H (step s p o)) 0 17) (λ z. k (e ∙ z)))
       ∙ sym e
 
   -- a start, by the answers of low-water and of roles over what the starter did
-  pub start-by : (s u : ℕ) {past : Past} {l r : Bool} → past ≡ pastOf t H s → l ≡ startPasses t H s u
-      → r ≡ (inForce t rolesRule implies rolesBy t (past .rights) 32) → cond l (cond r 0 16) 15 ≡ startNumber t H s u
+  pub start-by : (s u : ℕ) {past : Past} {l r : Bool} → past ≡ pastOf t H s → l ≡ startPasses t levels s u
+      → r ≡ (inForce t rolesRule implies rolesBy t (past .rights) 32) → cond l (cond r 0 16) 15 ≡ startNumber t H levels s u
   unfolding startNumber startPasses numberOf ladder pastOf
   start-by s u e a b = rw (a, b, e, implies-true (inForce t wallRule))
 
   module _ (ok : given t ≡ true) where
     -- an access, by the answers of wall, low-water and roles over what the person did
     pub access-by : (s o new : ℕ) (modifies : Bool) {past : Past} {w l r : Bool} → folderDeclared t o ≡ true → past ≡ pastOf t H s
-        → w ≡ (inForce t wallRule implies wallBy t (past .counted) o) → l ≡ levelPasses t o (currentLevel t H s) modifies
+        → w ≡ (inForce t wallRule implies wallBy t (past .counted) o) → l ≡ levelPasses t o (levels s) modifies
         → r ≡ (inForce t rolesRule implies rolesBy t (past .rights) new)
-        → cond w (cond l (cond r 0 16) 15) 14 ≡ accessNumber t H s o new modifies
+        → cond w (cond l (cond r 0 16) 15) 14 ≡ accessNumber t H levels s o new modifies
     unfolding accessNumber levelPasses numberOf ladder pastOf
     access-by s o new modifies known e a b c = rw (a, b, c, e, wall-by t H s ok o known)
 
     pub access-number : (writes : Bool) (s o : ℕ) → personDeclared t s ≡ true → folderDeclared t o ≡ true
-        → judged t H (accessBy writes s o) ≡ accessNumber t H s o (accessRight writes (folderAt t o .kind)) writes
+        → judged t H levels (accessBy writes s o) ≡ accessNumber t H levels s o (accessRight writes (folderAt t o .kind)) writes
     unfolding accessBy accessRight accessNumber wall lowWater mayModify right pipeline subject declared
     access-number true s o p f =
         let d = and-both _ _ p f in
         by-three (write s o) d refl
-        ∙ ap (numberOf t (wallAccess t H s o) (atMost 12 (folderAt t o .level .0) (currentLevel t H s)))
+        ∙ ap (numberOf t (wallAccess t H s o) (atMost 12 (folderAt t o .level .0) (levels s)))
         (sym (roles-by t H s ok (write s o) d refl))
     access-number false s o p f =
         let d = and-both _ _ p f in
         by-three (read s o) d refl ∙ ap (numberOf t (wallAccess t H s o) true) (sym (roles-by t H s ok (read s o) d refl))
 
-    pub start-number : (s u : ℕ) → declared t (start s u) ≡ true → judged t H (start s u) ≡ startNumber t H s u
+    pub start-number : (s u : ℕ) → declared t (start s u) ≡ true → judged t H levels (start s u) ≡ startNumber t H levels s u
     unfolding startNumber wall lowWater right pipeline subject
     start-number s u d =
         by-three (start s u) d refl
-        ∙ ap (numberOf t true (atMost 12 (currentLevel t H u) (currentLevel t H s))) (sym (roles-by t H s ok (start s u) d refl))
+        ∙ ap (numberOf t true (atMost 12 (levels u) (levels s))) (sym (roles-by t H s ok (start s u) d refl))
 
     pub step-number : (s p o : ℕ) → declared t (step s p o) ≡ true
-        → accessNumber t H s o (48 + p) true
-        ≡ numberOf t (wall t H (step s p o)) (lowWater t (currentLevel t H) (step s p o)) (roles t H (step s p o))
+        → accessNumber t H levels s o (48 + p) true
+        ≡ numberOf t (wall t H (step s p o)) (lowWater t levels (step s p o)) (roles t H (step s p o))
     unfolding accessNumber wall lowWater mayModify right subject
     step-number s p o d =
-        ap (numberOf t (wallAccess t H s o) (atMost 12 (folderAt t o .level .0) (currentLevel t H s)))
+        ap (numberOf t (wallAccess t H s o) (atMost 12 (folderAt t o .level .0) (levels s)))
         (roles-by t H s ok (step s p o) d refl)
 
 -- an access that no rule in force asks about
-pub unasked-access : (t : Tables) (H : Request → Bool) (writes : Bool) (s o : ℕ) → given t ≡ true → isUnasked t s o writes ≡ true
-    → judged t H (accessBy writes s o) ≡ 0
+pub unasked-access : (t : Tables) (H : Request → Bool) (levels : ℕ → ℕ) (writes : Bool) (s o : ℕ) → given t ≡ true → isUnasked t s o writes ≡ true
+    → judged t H levels (accessBy writes s o) ≡ 0
 unfolding isUnasked
-unasked-access t H writes s o ok test =
+unasked-access t H levels writes s o ok test =
     let unasked-by = and-left _ _ test in
     let known = and-right (not (asksPast t) && not (asksLevel t writes)) _ test in
-    access-number t H ok writes s o (and-left _ _ known) (and-right (personDeclared t s) _ known)
-    ∙ unasked t H s o _ (not-true _ (and-left _ _ unasked-by)) writes (not-true _ (and-right (not (asksPast t)) _ unasked-by))
+    access-number t H levels ok writes s o (and-left _ _ known) (and-right (personDeclared t s) _ known)
+    ∙ unasked t H levels s o _ (not-true _ (and-left _ _ unasked-by)) writes (not-true _ (and-right (not (asksPast t)) _ unasked-by))
 
 -- ---- the request at the front of some bytes
 
 -- an access of undeclared parties
-pub undeclared-access : (t : Tables) (H : Request → Bool) (writes : Bool) (s o : ℕ) → personDeclared t s && folderDeclared t o ≡ false
-    → judged t H (accessBy writes s o) ≡ 13
+pub undeclared-access : (t : Tables) (H : Request → Bool) (levels : ℕ → ℕ) (writes : Bool) (s o : ℕ) → personDeclared t s && folderDeclared t o ≡ false
+    → judged t H levels (accessBy writes s o) ≡ 13
 unfolding accessBy declared
-undeclared-access t H true s o n = not-declared t H (write s o) n
-undeclared-access t H false s o n = not-declared t H (read s o) n
+undeclared-access t H levels true s o n = not-declared t H levels (write s o) n
+undeclared-access t H levels false s o n = not-declared t H levels (read s o) n
 
 -- the request that the bytes hold, by what was parsed and the numbers read from it
 module _ (bytes : List ℕ) (p : Parsed) (parsed : asRequest p ≡ requestOf bytes) where
@@ -258,27 +255,13 @@ module _ (bytes : List ℕ) (p : Parsed) (parsed : asRequest p ≡ requestOf byt
   pub holds-step : (a b d s n o : ℕ) → p ≡ Step a b d → s ≡ a → n ≡ b → o ≡ d → requestOf bytes ≡ some (step s n o)
   holds-step a b d s n o e f g i = sym parsed ∙ rw (e, f, g, i)
 
-module _ (t : Tables) (H : Request → Bool) (bytes : List ℕ) where
+module _ (t : Tables) (H : Request → Bool) (levels : ℕ → ℕ) (bytes : List ℕ) where
   -- what is answered for the request that the bytes hold is answered for the bytes
-  pub judged-bytes : (r : Request) → requestOf bytes ≡ some r → judged t H r ≡ judgeOver t H bytes
-  unfolding judged judgeOver
+  pub judged-bytes : (r : Request) → requestOf bytes ≡ some r → judged t H levels r ≡ judgeWith t H levels bytes
+  unfolding judged judgeWith
   judged-bytes r e = rw e
 
-  pub answered-bytes : (r : Request) {number place next : ℕ} → requestOf bytes ≡ some r → Answered t H r number place next
-      → AnsweredAt t H bytes number place next
-  unfolding indexOf nextRecord nextAfter
-  answered-bytes r e answered =
-      record {
-        judgedAs = answered .judgedAs ∙ judged-bytes r e;
-        bit = answered .bit ∙ rw e;
-        onward = answered .onward ∙ rw e;
-      }
-
   -- bytes that hold none
-  pub cut-bytes : requestOf bytes ≡ none → judgeOver t H bytes ≡ 12
-  unfolding judgeOver requestChecks ladder
+  pub cut-bytes : requestOf bytes ≡ none → judgeWith t H levels bytes ≡ 12
+  unfolding judgeWith requestChecks ladder
   cut-bytes e = rw e
-
-  pub cut-answered : requestOf bytes ≡ none → AnsweredAt t H bytes 12 0 (length bytes)
-  unfolding indexOf nextRecord nextAfter
-  cut-answered e = record { judgedAs = sym (cut-bytes e); bit = rw e; onward = rw e }

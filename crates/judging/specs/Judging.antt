@@ -13,16 +13,17 @@ use Rattle.policy.specs.Checks.{_else_, ladder}
 use Rattle.policy.specs.Tables.{folderAt, personDeclared, folderDeclared, inForce, wallRule, lowWaterRule, rolesRule}
 use Rattle.policy.specs.Rulebook.{given}
 use Rattle.policy.specs.History.{historyBytes}
-use Rattle.policy.specs.Request.{Request, index, requestOf, recordLength}
-use Rattle.policy.specs.Rules.{currentLevel, used, wallAccess}
-use Rattle.policy.specs.Calls.{requestChecks, judgeOver}
-use Rattle.request.specs.Parsed.{indexOf, nextRecord}
+use Rattle.policy.specs.Request.{Request}
+use Rattle.policy.specs.Levels.{levelsBytes}
+use Rattle.policy.specs.Rules.{used, wallAccess}
+use Rattle.policy.specs.Calls.{requestChecks}
 use Rattle.rules.specs.Sets.{rolesBy}
 
--- what the calls have checked: tables that a load gives, and a history of the right length
-pub record Ready (t : Tables) (h : List ℕ) : Type 0 where
+-- what the calls have checked: tables that a load gives, and a history and levels of the right lengths
+pub record Ready (t : Tables) (h l : List ℕ) : Type 0 where
   pub tables : given t ≡ true
   pub size : length h ≡ historyBytes
+  pub held : length l ≡ levelsBytes
 
 -- the number of wall, low-water and roles, each by whether it permits
 unfoldable pub numberOf : Tables → Bool → Bool → Bool → ℕ
@@ -45,8 +46,8 @@ unfoldable pub levelPasses : Tables → ℕ → ℕ → Bool → Bool
 levelPasses t o level modifies = inForce t lowWaterRule implies (modifies implies atMost 12 (folderAt t o .level .0) level)
 
 -- low-water, where it is in force, permits a start of person u by person s
-unfoldable pub startPasses : Tables → (Request → Bool) → ℕ → ℕ → Bool
-startPasses t H s u = inForce t lowWaterRule implies atMost 12 (currentLevel t H u) (currentLevel t H s)
+unfoldable pub startPasses : Tables → (ℕ → ℕ) → ℕ → ℕ → Bool
+startPasses t levels s u = inForce t lowWaterRule implies atMost 12 (levels u) (levels s)
 
 -- an access by person s to folder o is granted with no look at what the person did
 unfoldable pub isUnasked : Tables → ℕ → ℕ → Bool → Bool
@@ -57,28 +58,16 @@ unfoldable pub accessRight : Bool → ℕ → ℕ
 accessRight writes kind = cond writes (16 + kind) kind
 
 -- these three for an access by person s to folder o that uses a right, and modifies the folder or not
-unfoldable pub accessNumber : Tables → (Request → Bool) → ℕ → ℕ → ℕ → Bool → ℕ
-accessNumber t H s o right modifies =
-    numberOf t (wallAccess t H s o) (modifies implies atMost 12 (folderAt t o .level .0) (currentLevel t H s))
+unfoldable pub accessNumber : Tables → (Request → Bool) → (ℕ → ℕ) → ℕ → ℕ → ℕ → Bool → ℕ
+accessNumber t H levels s o right modifies =
+    numberOf t (wallAccess t H s o) (modifies implies atMost 12 (folderAt t o .level .0) (levels s))
     (rolesBy t (maskBelow 64 (used t H s)) right)
 
 -- these three for a start of person u by person s, which the wall passes
-unfoldable pub startNumber : Tables → (Request → Bool) → ℕ → ℕ → ℕ
-startNumber t H s u =
-    numberOf t true (atMost 12 (currentLevel t H u) (currentLevel t H s)) (rolesBy t (maskBelow 64 (used t H s)) 32)
+unfoldable pub startNumber : Tables → (Request → Bool) → (ℕ → ℕ) → ℕ → ℕ → ℕ
+startNumber t H levels s u =
+    numberOf t true (atMost 12 (levels u) (levels s)) (rolesBy t (maskBelow 64 (used t H s)) 32)
 
 -- the number of a whole request
-unfoldable pub judged : Tables → (Request → Bool) → Request → ℕ
-judged t H r = ladder (requestChecks t H (some r))
-
--- what is answered for a request: its number, the index of its bit, and how far on the next record stands
-pub record Answered (t : Tables) (H : Request → Bool) (r : Request) (number place next : ℕ) : Type 0 where
-  pub judgedAs : number ≡ judged t H r
-  pub bit : place ≡ index r
-  pub onward : next ≡ recordLength r
-
--- and for the request at the front of some bytes
-pub record AnsweredAt (t : Tables) (H : Request → Bool) (bytes : List ℕ) (number place next : ℕ) : Type 0 where
-  pub judgedAs : number ≡ judgeOver t H bytes
-  pub bit : place ≡ indexOf (requestOf bytes)
-  pub onward : next ≡ nextRecord bytes
+unfoldable pub judged : Tables → (Request → Bool) → (ℕ → ℕ) → Request → ℕ
+judged t H levels r = ladder (requestChecks t H levels (some r))

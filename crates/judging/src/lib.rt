@@ -1,53 +1,49 @@
-// Judging one request (document 01, "Requests and calls"), on tables that a load gives and a history of 18,944 bytes: the checks 12 to 17.
+// Judging one request (document 01, "Requests and calls"), on tables that a load gives, a history of 18,944 bytes and 128 bytes of levels:
+// the checks 12 to 17.
 ghost use mathlib.Core.Path.{_≡_};
 ghost use mathlib.Core.Bool.{true, false, cond, _&&_};
 ghost use Prim.Native.Nat.{_+_, _<_};
+ghost use lib.ListN.{length};
 ghost use Rattle.level.specs.Levels.{atMost};
 ghost use Rattle.policy.specs.Tables.{personDeclared, folderDeclared};
 ghost use Rattle.policy.specs.Request.{start, step, setOf};
-ghost use Rattle.policy.specs.Rules.{currentLevel};
-ghost use Rattle.policy.specs.Calls.{judgeOver};
+ghost use Rattle.policy.specs.Levels.{levelsBytes, levelAt};
+ghost use Rattle.policy.specs.Calls.{judgeWith};
 ghost use Rattle.packed.specs.Packed.{tablesOf};
 ghost use Rattle.request.specs.Parsed.{accessBy};
 ghost use Rattle.judging.specs.Judging.{Ready, isUnasked, accessRight, accessNumber, startNumber, judged};
-ghost use Rattle.judging.specs.Judging.{Answered, AnsweredAt};
 use level::Level;
 use packed::Words;
-use past::levels;
 use past::steps;
 use policy::numbers;
 use request::Parsed;
 
 mod passing;
 
-// Low-water alone: whether a level is at most the current level of person s.
-fn judge_level(t: &Words, h: &[u8], s: usize, level: Level) -> u8
-    requires { ⌜ Ready (tablesOf (now t)) (now h) × (personDeclared (tablesOf (now t)) s ≡ true) ⌝ }
-    ensures { λ r. ⌜
-        r ≡ cond (atMost 12 (level .0) (currentLevel (tablesOf (now (t .entry))) (setOf (now (h .entry))) s)) 0 15
-        ⌝ }
+// Low-water alone: whether a level is at most the stored level of person s.
+fn judge_level(l: &[u8], s: usize, level: Level) -> u8
+    requires { ⌜ (length (now l) ≡ levelsBytes) × (s < 64) ⌝ }
+    ensures { λ r. ⌜ r ≡ cond (atMost 12 (level .0) (levelAt (now (l .entry)) s)) 0 15 ⌝ }
 {
-    if level.compare(levels::current_level(t, h, s)) {
+    if level.compare(levels::entry(l, s)) {
         return numbers::GRANTED;
     }
     numbers::LOW_WATER
 }
 
-// Wall, low-water and roles for an access by person s to folder o, by what the person did. The folders on which the person stepped are
-// found once, for all that was done and for the level.
-fn judge_past(t: &Words, h: &[u8], s: usize, o: usize, right: usize, modifies: bool) -> u8
+// Wall, low-water and roles for an access by person s to folder o, by what the person did and the person's stored level.
+fn judge_past(t: &Words, h: &[u8], l: &[u8], s: usize, o: usize, right: usize, modifies: bool) -> u8
     requires { ⌜
-        Ready (tablesOf (now t)) (now h) × (personDeclared (tablesOf (now t)) s ≡ true)
+        Ready (tablesOf (now t)) (now h) (now l) × (personDeclared (tablesOf (now t)) s ≡ true)
         × (folderDeclared (tablesOf (now t)) o ≡ true)
         ⌝ }
-    ensures { λ r. ⌜ r ≡ accessNumber (tablesOf (now (t .entry))) (setOf (now (h .entry))) s o right modifies ⌝ }
+    ensures { λ r. ⌜ r ≡ accessNumber (tablesOf (now (t .entry))) (setOf (now (h .entry))) (levelAt (now (l .entry))) s o right modifies ⌝ }
 {
-    let stepped = steps::stepped_by(h, s);
-    let did = past::past_of(t, h, s, stepped);
+    let did = past::past_of(t, h, s, steps::stepped_by(h, s));
     if !passing::wall_passes(t, did.counted, o) {
         return numbers::WALL;
     }
-    if !passing::level_passes(t, h, s, stepped, o, modifies) {
+    if !passing::level_passes(t, l, s, o, modifies) {
         return numbers::LOW_WATER;
     }
     if !passing::roles_pass(t, did.rights, right) {
@@ -57,22 +53,30 @@ fn judge_past(t: &Words, h: &[u8], s: usize, o: usize, right: usize, modifies: b
 }
 
 // Wall, low-water and roles for an access by person s to folder o, which uses a right, and modifies the folder or not.
-fn judge_rules(t: &Words, h: &[u8], s: usize, o: usize, right: usize, modifies: bool) -> u8
+fn judge_rules(
+    t: &Words,
+    h: &[u8],
+    l: &[u8],
+    s: usize,
+    o: usize,
+    right: usize,
+    modifies: bool,
+) -> u8
     requires { ⌜
-        Ready (tablesOf (now t)) (now h) × (personDeclared (tablesOf (now t)) s ≡ true)
+        Ready (tablesOf (now t)) (now h) (now l) × (personDeclared (tablesOf (now t)) s ≡ true)
         × (folderDeclared (tablesOf (now t)) o ≡ true)
         ⌝ }
-    ensures { λ r. ⌜ r ≡ accessNumber (tablesOf (now (t .entry))) (setOf (now (h .entry))) s o right modifies ⌝ }
+    ensures { λ r. ⌜ r ≡ accessNumber (tablesOf (now (t .entry))) (setOf (now (h .entry))) (levelAt (now (l .entry))) s o right modifies ⌝ }
 {
     if passing::asks_past(t) {
-        return judge_past(t, h, s, o, right, modifies);
+        return judge_past(t, h, l, s, o, right, modifies);
     }
     if !passing::asks_level(t, modifies) {
         return numbers::GRANTED;
     }
     let folder = packed::folder(t, o);
     let level = folder.level;
-    judge_level(t, h, s, level)
+    judge_level(l, s, level)
 }
 
 // Whether person s and folder o are declared.
@@ -97,37 +101,37 @@ fn access_right(write: bool, kind: u8) -> usize
 
 // A read of folder o by person s, or a write. The history is lent on as a part, which costs less than as a whole: its place need not be
 // in memory.
-fn judge_access(t: &Words, h: &[u8], s: usize, o: usize, write: bool) -> u8
-    requires { ⌜ Ready (tablesOf (now t)) (now h) ⌝ }
-    ensures { λ r. ⌜ r ≡ judged (tablesOf (now (t .entry))) (setOf (now (h .entry))) (accessBy write s o) ⌝ }
+fn judge_access(t: &Words, h: &[u8], l: &[u8], s: usize, o: usize, write: bool) -> u8
+    requires { ⌜ Ready (tablesOf (now t)) (now h) (now l) ⌝ }
+    ensures { λ r. ⌜ r ≡ judged (tablesOf (now (t .entry))) (setOf (now (h .entry))) (levelAt (now (l .entry))) (accessBy write s o) ⌝ }
 {
     if !are_declared(t, s, o) {
         return numbers::UNDECLARED;
     }
     let folder = packed::folder(t, o);
-    judge_rules(t, &h[0..], s, o, access_right(write, folder.kind), write)
+    judge_rules(t, &h[0..], l, s, o, access_right(write, folder.kind), write)
 }
 
 // Wall, low-water and roles for a step. Where none of them asks it is granted here, with no call.
-fn step_rules(t: &Words, h: &[u8], s: usize, p: usize, o: usize) -> u8
+fn step_rules(t: &Words, h: &[u8], l: &[u8], s: usize, p: usize, o: usize) -> u8
     requires { ⌜
-        Ready (tablesOf (now t)) (now h) × (personDeclared (tablesOf (now t)) s ≡ true)
+        Ready (tablesOf (now t)) (now h) (now l) × (personDeclared (tablesOf (now t)) s ≡ true)
         × (folderDeclared (tablesOf (now t)) o ≡ true) × (p < 16)
         ⌝ }
-    ensures { λ r. ⌜ r ≡ accessNumber (tablesOf (now (t .entry))) (setOf (now (h .entry))) s o (48 + p) true ⌝ }
+    ensures { λ r. ⌜ r ≡ accessNumber (tablesOf (now (t .entry))) (setOf (now (h .entry))) (levelAt (now (l .entry))) s o (48 + p) true ⌝ }
 {
     if !passing::asks_past(t) {
         if !passing::asks_level(t, true) {
             return numbers::GRANTED;
         }
     }
-    judge_rules(t, h, s, o, 48 + p, true)
+    judge_rules(t, h, l, s, o, 48 + p, true)
 }
 
 // Step p on folder o by person s, which modifies the folder. The history is lent on as a part, as in `judge_access`.
-fn judge_step(t: &Words, h: &[u8], s: usize, p: usize, o: usize) -> u8
-    requires { ⌜ Ready (tablesOf (now t)) (now h) ⌝ }
-    ensures { λ r. ⌜ r ≡ judged (tablesOf (now (t .entry))) (setOf (now (h .entry))) (step s p o) ⌝ }
+pub fn judge_step(t: &Words, h: &[u8], l: &[u8], s: usize, p: usize, o: usize) -> u8
+    requires { ⌜ Ready (tablesOf (now t)) (now h) (now l) ⌝ }
+    ensures { λ r. ⌜ r ≡ judged (tablesOf (now (t .entry))) (setOf (now (h .entry))) (levelAt (now (l .entry))) (step s p o) ⌝ }
 {
     if p > 15 {
         return numbers::UNDECLARED;
@@ -135,7 +139,7 @@ fn judge_step(t: &Words, h: &[u8], s: usize, p: usize, o: usize) -> u8
     if !are_declared(t, s, o) {
         return numbers::UNDECLARED;
     }
-    let n = step_rules(t, &h[0..], s, p, o);
+    let n = step_rules(t, &h[0..], l, s, p, o);
     if n != numbers::GRANTED {
         return n;
     }
@@ -159,17 +163,16 @@ fn are_persons(t: &Words, s: usize, u: usize) -> bool
 }
 
 // Low-water and roles for a start of person u by person s.
-fn judge_start_past(t: &Words, h: &[u8], s: usize, u: usize) -> u8
+fn judge_start_past(t: &Words, h: &[u8], l: &[u8], s: usize, u: usize) -> u8
     requires { ⌜
-        Ready (tablesOf (now t)) (now h) × (personDeclared (tablesOf (now t)) s ≡ true) × (personDeclared (tablesOf (now t)) u ≡ true)
+        Ready (tablesOf (now t)) (now h) (now l) × (personDeclared (tablesOf (now t)) s ≡ true) × (personDeclared (tablesOf (now t)) u ≡ true)
         ⌝ }
-    ensures { λ r. ⌜ r ≡ startNumber (tablesOf (now (t .entry))) (setOf (now (h .entry))) s u ⌝ }
+    ensures { λ r. ⌜ r ≡ startNumber (tablesOf (now (t .entry))) (setOf (now (h .entry))) (levelAt (now (l .entry))) s u ⌝ }
 {
-    let stepped = steps::stepped_by(h, s);
-    if !passing::start_passes(t, h, s, stepped, u) {
+    if !passing::start_passes(t, l, s, u) {
         return numbers::LOW_WATER;
     }
-    let did = past::past_of(t, h, s, stepped);
+    let did = past::past_of(t, h, s, steps::stepped_by(h, s));
     if !passing::roles_pass(t, did.rights, 32) {
         return numbers::ROLES;
     }
@@ -177,27 +180,20 @@ fn judge_start_past(t: &Words, h: &[u8], s: usize, u: usize) -> u8
 }
 
 // A start of person u by person s. The history is lent on as a part, as in `judge_access`.
-fn judge_start(t: &Words, h: &[u8], s: usize, u: usize) -> u8
-    requires { ⌜ Ready (tablesOf (now t)) (now h) ⌝ }
-    ensures { λ r. ⌜ r ≡ judged (tablesOf (now (t .entry))) (setOf (now (h .entry))) (start s u) ⌝ }
+pub fn judge_start(t: &Words, h: &[u8], l: &[u8], s: usize, u: usize) -> u8
+    requires { ⌜ Ready (tablesOf (now t)) (now h) (now l) ⌝ }
+    ensures { λ r. ⌜ r ≡ judged (tablesOf (now (t .entry))) (setOf (now (h .entry))) (levelAt (now (l .entry))) (start s u) ⌝ }
 {
     if !are_persons(t, s, u) {
         return numbers::UNDECLARED;
     }
     if packed::in_force(t, policy::ROLES_RULE) {
-        return judge_start_past(t, &h[0..], s, u);
+        return judge_start_past(t, &h[0..], l, s, u);
     }
     if !packed::in_force(t, policy::LOW_WATER_RULE) {
         return numbers::GRANTED;
     }
-    judge_level(t, &h[0..], s, levels::current_level(t, &h[0..], u))
-}
-
-// What judging a request gives: its number, the index of its bit in a history, and how far on the next record stands.
-pub struct Judged {
-    pub number: u8,
-    pub index: usize,
-    pub next: usize,
+    judge_level(l, s, levels::entry(l, u))
 }
 
 // Whether a read of folder o by person s, or a write, is granted with no look at what the person did: no rule in force asks about it.
@@ -214,97 +210,20 @@ fn is_unasked(t: &Words, s: usize, o: usize, write: bool) -> bool
 }
 
 // The number of a read of folder o by person s, or of a write. One that no rule asks about is granted here, with no call.
-fn access_number(t: &Words, h: &[u8], s: usize, o: usize, write: bool) -> u8
-    requires { ⌜ Ready (tablesOf (now t)) (now h) ⌝ }
-    ensures { λ r. ⌜ r ≡ judged (tablesOf (now (t .entry))) (setOf (now (h .entry))) (accessBy write s o) ⌝ }
+pub fn access_number(t: &Words, h: &[u8], l: &[u8], s: usize, o: usize, write: bool) -> u8
+    requires { ⌜ Ready (tablesOf (now t)) (now h) (now l) ⌝ }
+    ensures { λ r. ⌜ r ≡ judged (tablesOf (now (t .entry))) (setOf (now (h .entry))) (levelAt (now (l .entry))) (accessBy write s o) ⌝ }
 {
     if is_unasked(t, s, o, write) {
         return numbers::GRANTED;
     }
-    judge_access(t, h, s, o, write)
-}
-
-// A read of folder o by person s, or a write.
-fn access_at(t: &Words, h: &[u8], s: usize, o: usize, write: bool) -> Judged
-    requires { ⌜ Ready (tablesOf (now t)) (now h) × (s < 256) × (o < 256) ⌝ }
-    ensures { λ r. ⌜
-        Answered (tablesOf (now (t .entry))) (setOf (now (h .entry))) (accessBy write s o) (r .number) (r .index) (r .next)
-        ⌝ }
-{
-    Judged {
-        number: access_number(t, h, s, o, write),
-        index: request::access_index(write, s, o),
-        next: 3,
-    }
-}
-
-// A start of person u by person s.
-fn start_at(t: &Words, h: &[u8], s: usize, u: usize) -> Judged
-    requires { ⌜ Ready (tablesOf (now t)) (now h) × (s < 256) × (u < 256) ⌝ }
-    ensures { λ r. ⌜
-        Answered (tablesOf (now (t .entry))) (setOf (now (h .entry))) (start s u) (r .number) (r .index) (r .next)
-        ⌝ }
-{
-    Judged {
-        number: judge_start(t, h, s, u),
-        index: request::start_index(s, u),
-        next: 3,
-    }
-}
-
-// Step p on folder o by person s.
-fn step_at(t: &Words, h: &[u8], s: usize, p: usize, o: usize) -> Judged
-    requires { ⌜ Ready (tablesOf (now t)) (now h) × (s < 256) × (p < 256) × (o < 256) ⌝ }
-    ensures { λ r. ⌜
-        Answered (tablesOf (now (t .entry))) (setOf (now (h .entry))) (step s p o) (r .number) (r .index) (r .next)
-        ⌝ }
-{
-    Judged {
-        number: judge_step(t, h, s, p, o),
-        index: request::step_index(s, p, o),
-        next: 4,
-    }
-}
-
-// The request at the front of the bytes, for a run: number, index and place of the next. A run has a call of its own, and so the compiler
-// merges it into the loop.
-pub fn judge_next(t: &Words, h: &[u8], bytes: &[u8]) -> Judged
-    requires { ⌜ Ready (tablesOf (now t)) (now h) ⌝ }
-    ensures { λ r. ⌜
-        AnsweredAt (tablesOf (now (t .entry))) (setOf (now (h .entry))) (now (bytes .entry)) (r .number) (r .index) (r .next)
-        ⌝ }
-{
-    let parsed = request::parse(bytes);
-    match parsed {
-        Parsed::Nothing => Judged {
-            number: numbers::REQUEST_CUT,
-            index: 0,
-            next: bytes.len(),
-        },
-        Parsed::Access {
-            write,
-            person,
-            folder,
-        } => access_at(t, h, bits::wide(person), bits::wide(folder), write),
-        Parsed::Start { person, second } => start_at(t, h, bits::wide(person), bits::wide(second)),
-        Parsed::Step {
-            person,
-            step,
-            folder,
-        } => step_at(
-            t,
-            h,
-            bits::wide(person),
-            bits::wide(step),
-            bits::wide(folder),
-        ),
-    }
+    judge_access(t, h, l, s, o, write)
 }
 
 // The number of the request at the front of the bytes.
-pub fn judge_bytes(t: &Words, h: &[u8], bytes: &[u8]) -> u8
-    requires { ⌜ Ready (tablesOf (now t)) (now h) ⌝ }
-    ensures { λ r. ⌜ r ≡ judgeOver (tablesOf (now (t .entry))) (setOf (now (h .entry))) (now (bytes .entry)) ⌝ }
+pub fn judge_bytes(t: &Words, h: &[u8], l: &[u8], bytes: &[u8]) -> u8
+    requires { ⌜ Ready (tablesOf (now t)) (now h) (now l) ⌝ }
+    ensures { λ r. ⌜ r ≡ judgeWith (tablesOf (now (t .entry))) (setOf (now (h .entry))) (levelAt (now (l .entry))) (now (bytes .entry)) ⌝ }
 {
     let parsed = request::parse(bytes);
     match parsed {
@@ -313,10 +232,11 @@ pub fn judge_bytes(t: &Words, h: &[u8], bytes: &[u8]) -> u8
             write,
             person,
             folder,
-        } => judge_access(t, h, bits::wide(person), bits::wide(folder), write),
+        } => judge_access(t, h, l, bits::wide(person), bits::wide(folder), write),
         Parsed::Start { person, second } => judge_start(
             t,
             h,
+            l,
             bits::wide(person),
             bits::wide(second),
         ),
@@ -327,6 +247,7 @@ pub fn judge_bytes(t: &Words, h: &[u8], bytes: &[u8]) -> u8
         } => judge_step(
             t,
             h,
+            l,
             bits::wide(person),
             bits::wide(step),
             bits::wide(folder),

@@ -1,19 +1,15 @@
 // What each rule says if it is in force, and whether it asks at all: a rule that is not in force refuses nothing.
 ghost use mathlib.Core.Path.{_≡_};
 ghost use mathlib.Core.Bool.{true};
+ghost use lib.ListN.{length};
 ghost use Rattle.bits.specs.Bounded.{_implies_};
 ghost use Rattle.policy.specs.Tables.{personDeclared, folderDeclared, inForce, wallRule, rolesRule};
 ghost use Rattle.policy.specs.Rulebook.{given};
-ghost use Rattle.policy.specs.Request.{setOf};
-ghost use Rattle.policy.specs.Rules.{currentLevel};
+ghost use Rattle.policy.specs.Levels.{levelsBytes, levelAt};
 ghost use Rattle.packed.specs.Packed.{tablesOf};
-ghost use Rattle.past.specs.Folders.{foldersOf};
-ghost use Rattle.past.specs.Turns.{steppedAt};
 ghost use Rattle.rules.specs.Sets.{wallBy, rolesBy};
-ghost use Rattle.judging.specs.Judging.{Ready, asksPast, asksLevel, levelPasses, startPasses};
+ghost use Rattle.judging.specs.Judging.{asksPast, asksLevel, levelPasses, startPasses};
 use packed::Words;
-use past::Folders;
-use past::levels;
 
 // Whether the wall or roles are in force. Only these two ask for all that a person did.
 pub fn asks_past(t: &Words) -> bool
@@ -48,29 +44,19 @@ pub fn wall_passes(t: &Words, counted: u64, o: usize) -> bool
     true
 }
 
-// Whether low-water, if it asks, permits person s, who stepped on these folders, an access to folder o.
-pub fn level_passes(
-    t: &Words,
-    h: &[u8],
-    s: usize,
-    stepped: Folders,
-    o: usize,
-    modifies: bool,
-) -> bool
+// Whether low-water, if it asks, permits person s, by the stored level, an access to folder o.
+pub fn level_passes(t: &Words, l: &[u8], s: usize, o: usize, modifies: bool) -> bool
     requires { ⌜
-        Ready (tablesOf (now t)) (now h) × (personDeclared (tablesOf (now t)) s ≡ true)
-        × (folderDeclared (tablesOf (now t)) o ≡ true) × (stepped ≡ foldersOf (steppedAt (now h) s))
+        (length (now l) ≡ levelsBytes) × (personDeclared (tablesOf (now t)) s ≡ true) × (folderDeclared (tablesOf (now t)) o ≡ true)
         ⌝ }
-    ensures { λ r. ⌜
-        r ≡ levelPasses (tablesOf (now (t .entry))) o (currentLevel (tablesOf (now (t .entry))) (setOf (now (h .entry))) s) modifies
-        ⌝ }
+    ensures { λ r. ⌜ r ≡ levelPasses (tablesOf (now (t .entry))) o (levelAt (now (l .entry)) s) modifies ⌝ }
 {
     if !asks_level(t, modifies) {
         return true;
     }
     let folder = packed::folder(t, o);
     let level = folder.level;
-    level.compare(levels::level_with(t, h, s, stepped))
+    level.compare(levels::entry(l, s))
 }
 
 // Whether roles, if they are in force, permit a right to a person who used these.
@@ -85,18 +71,17 @@ pub fn roles_pass(t: &Words, used: u64, right: usize) -> bool
     true
 }
 
-// Whether low-water, if it is in force, permits a start of person u by person s, who stepped on these folders.
-pub fn start_passes(t: &Words, h: &[u8], s: usize, stepped: Folders, u: usize) -> bool
+// Whether low-water, if it is in force, permits a start of person u by person s, by the stored levels of both.
+pub fn start_passes(t: &Words, l: &[u8], s: usize, u: usize) -> bool
     requires { ⌜
-        Ready (tablesOf (now t)) (now h) × (personDeclared (tablesOf (now t)) s ≡ true)
-        × (personDeclared (tablesOf (now t)) u ≡ true) × (stepped ≡ foldersOf (steppedAt (now h) s))
+        (length (now l) ≡ levelsBytes) × (personDeclared (tablesOf (now t)) s ≡ true) × (personDeclared (tablesOf (now t)) u ≡ true)
         ⌝ }
-    ensures { λ r. ⌜ r ≡ startPasses (tablesOf (now (t .entry))) (setOf (now (h .entry))) s u ⌝ }
+    ensures { λ r. ⌜ r ≡ startPasses (tablesOf (now (t .entry))) (levelAt (now (l .entry))) s u ⌝ }
 {
     if !packed::in_force(t, policy::LOW_WATER_RULE) {
         return true;
     }
-    let own = levels::level_with(t, h, s, stepped);
-    let other = levels::current_level(t, h, u);
+    let own = levels::entry(l, s);
+    let other = levels::entry(l, u);
     other.compare(own)
 }

@@ -1,7 +1,7 @@
--- The checks that every call on tables and a history starts with, and what a call returns once they pass or refuse. A check that refuses
+-- The checks that every call on tables, a history and levels starts with, and what a call returns once they pass or refuse. A check that refuses
 -- gives its number whatever follows it, and checks that permit leave the number to those after them.
 use Prim.Native.Nat.{ℕ, _+_, _≤_, _<_}
-use mathlib.Core.Path.{_≡_, refl, sym, ap, _∙_}
+use mathlib.Core.Path.{_≡_, refl, sym, ap, ap₂, _∙_}
 use mathlib.Core.Logic.{_≢_, ⊎-elim}
 use mathlib.Core.Bool.{Bool, true, false, cond}
 use mathlib.Core.List.{List, _++_}
@@ -17,31 +17,34 @@ use Rattle.policy.specs.declared.Ran.{Ran}
 use Rattle.policy.specs.Checks.{Check, ladder}
 use Rattle.policy.specs.Tables.{personDeclared}
 use Rattle.policy.specs.Rulebook.{given}
-use Rattle.policy.specs.History.{historyBytes}
-use Rattle.policy.specs.Request.{requestOf, setOf}
-use Rattle.policy.specs.Rules.{currentLevel}
+use Rattle.policy.specs.History.{historyBytes, zeros}
+use Rattle.policy.specs.Request.{setOf}
+use Rattle.policy.specs.Levels.{levelsBytes, levelAt, firstLevels}
 use Rattle.policy.specs.Calls.{
-  judgeOver,
+  State,
+  state,
   callChecks,
+  blankNumber,
+  blankState,
+  judgeWith,
   judgeNumber,
-  recordedIf,
-  putHistory,
+  putState,
   putNumbers,
-  putHistories,
+  putStates,
   callsOf,
   answersDue,
   grantedIn,
   refusedIn,
   runNumber,
   ran,
-  runHistory,
+  runState,
   runAnswers,
   standingNumber,
   standing,
 }
 use Rattle.policy.proofs.Refusals.{refusals}
 use Rattle.policy.proofs.Runs.{counts-fit as room}
-use Rattle.policy.proofs.Histories.{judge-over}
+use Rattle.policy.proofs.Histories.{judge-with}
 use Rattle.policy.proofs.Ladders.{permit-first, permit-rest, ladder-zero, ladder-after}
 use Rattle.judging.specs.Judging.{Ready}
 use Rattle.past.specs.declared.Past.{Past}
@@ -49,81 +52,100 @@ use Rattle.past.specs.Past.{pastOf}
 use Rattle.past.proofs.PastLaws.{used-count, opened-count}
 use Rattle.monitor.specs.Refused.{noStanding, noRun, RunIs}
 
--- ---- the checks on tables and history
+-- ---- the checks on tables, history and levels
 
-module _ (t : Tables) (h : List ℕ) where
-  pub wrong-length : length h ≢ historyBytes → ladder (callChecks t h) ≡ 10
+module _ (t : Tables) (a : State) where
+  pub wrong-length : length (a .history) ≢ historyBytes → ladder (callChecks t a) ≡ 10
   unfolding callChecks ladder
-  wrong-length n = rw (ne-eqb (length h) historyBytes n)
+  wrong-length n = rw (ne-eqb (length (a .history)) historyBytes n)
 
-  pub not-given : length h ≡ historyBytes → given t ≡ false → ladder (callChecks t h) ≡ 11
+  pub wrong-levels : length (a .history) ≡ historyBytes → length (a .levels) ≢ levelsBytes → ladder (callChecks t a) ≡ 20
   unfolding callChecks ladder
-  not-given size g = rw (eq-eqb (length h) historyBytes size, g)
+  wrong-levels size n = rw (eq-eqb (length (a .history)) historyBytes size, ne-eqb (length (a .levels)) levelsBytes n)
 
-  pub both-pass : length h ≡ historyBytes → given t ≡ true → ladder (callChecks t h) ≡ 0
-  unfolding callChecks ladder
-  both-pass size g = rw (eq-eqb (length h) historyBytes size, g)
+  module _ (size : length (a .history) ≡ historyBytes) (held : length (a .levels) ≡ levelsBytes) where
+    pub not-given : given t ≡ false → ladder (callChecks t a) ≡ 11
+    unfolding callChecks ladder
+    not-given g = rw (eq-eqb (length (a .history)) historyBytes size, eq-eqb (length (a .levels)) levelsBytes held, g)
 
-  -- where they pass, the tables are given and the history has its length
-  pub passed-ready : ladder (callChecks t h) ≡ 0 → Ready t h
+    pub all-pass : given t ≡ true → ladder (callChecks t a) ≡ 0
+    unfolding callChecks ladder
+    all-pass g = rw (eq-eqb (length (a .history)) historyBytes size, eq-eqb (length (a .levels)) levelsBytes held, g)
+
+  -- where they pass, the tables are given and both buffers have their lengths
+  pub passed-ready : ladder (callChecks t a) ≡ 0 → Ready t (a .history) (a .levels)
   unfolding callChecks
   passed-ready e =
-      let all = ladder-zero (callChecks t h) refl e in
-      record { tables = permit-first (permit-rest all); size = eqb-true (length h) historyBytes (permit-first all) }
+      let all = ladder-zero (callChecks t a) refl e in
+      record {
+        tables = permit-first (permit-rest (permit-rest all));
+        size = eqb-true (length (a .history)) historyBytes (permit-first all);
+        held = eqb-true (length (a .levels)) levelsBytes (permit-first (permit-rest all));
+      }
 
-  pub passed-then : (rest : List Check) → ladder (callChecks t h) ≡ 0 → ladder (callChecks t h ++ rest) ≡ ladder rest
+  pub passed-then : (rest : List Check) → ladder (callChecks t a) ≡ 0 → ladder (callChecks t a ++ rest) ≡ ladder rest
   unfolding callChecks
-  passed-then rest e = ladder-after (callChecks t h) rest (ladder-zero (callChecks t h) refl e)
+  passed-then rest e = ladder-after (callChecks t a) rest (ladder-zero (callChecks t a) refl e)
 
   -- where they refuse, what follows does not count
-  pub refused-first : (rest : List Check) → ladder (callChecks t h) ≢ 0 → ladder (callChecks t h ++ rest) ≡ ladder (callChecks t h)
+  pub refused-first : (rest : List Check) → ladder (callChecks t a) ≢ 0 → ladder (callChecks t a ++ rest) ≡ ladder (callChecks t a)
   unfolding callChecks ladder
-  refused-first rest = go (eqb (length h) historyBytes) (given t)
+  refused-first rest = go (eqb (length (a .history)) historyBytes) (eqb (length (a .levels)) levelsBytes) (given t)
     where
-      number : Bool → Bool → ℕ → ℕ
-      number a b n = cond a (cond b n 11) 10
+      number : Bool → Bool → Bool → ℕ → ℕ
+      number x y z n = cond x (cond y (cond z n 11) 20) 10
 
-      go : (a b : Bool) → number a b 0 ≢ 0 → number a b (ladder rest) ≡ number a b 0
-      go true true n = absurd (n refl)
-      go true false n = refl
-      go false b n = refl
+      go : (x y z : Bool) → number x y z 0 ≢ 0 → number x y z (ladder rest) ≡ number x y z 0
+      go true true true n = absurd (n refl)
+      go true true false n = refl
+      go true false z n = refl
+      go false y z n = refl
+
+-- ---- blank
+
+module _ (t : Tables) (h l : List ℕ) {n : ℕ} (checked : n ≡ ladder (callChecks t (state h l))) where
+  pub blank-refused : n ≢ 0 → (n ≡ blankNumber t (state h l)) × (state h l ≡ blankState t (state h l))
+  unfolding blankNumber
+  blank-refused k = (checked, sym (refusals .blank t (state h l) (λ z. k (checked ∙ z))))
+
+  pub blank-made : {h′ l′ : List ℕ} → n ≡ 0 → h′ ≡ zeros (length h) → l′ ≡ firstLevels t l
+      → (0 ≡ blankNumber t (state h l)) × (state h′ l′ ≡ blankState t (state h l))
+  unfolding blankNumber blankState
+  blank-made z e f =
+      let passed = sym checked ∙ z in
+      (sym passed, rw passed (ap₂ state (e ∙ ap zeros (passed-ready t (state h l) passed .size)) f))
 
 -- ---- judge and put
 
-module _ (t : Tables) (h bytes : List ℕ) where
-  pub judge-refused : (n : ℕ) → n ≡ ladder (callChecks t h) → n ≢ 0 → n ≡ judgeNumber t h bytes
+module _ (t : Tables) (a : State) (bytes : List ℕ) where
+  pub judge-refused : (n : ℕ) → n ≡ ladder (callChecks t a) → n ≢ 0 → n ≡ judgeNumber t a bytes
   unfolding judgeNumber
-  judge-refused n e k = e ∙ sym (refused-first t h _ (λ z. k (e ∙ z)))
+  judge-refused n e k = e ∙ sym (refused-first t a _ (λ z. k (e ∙ z)))
 
-  pub judge-ready : Ready t h → judgeOver t (setOf h) bytes ≡ judgeNumber t h bytes
-  judge-ready ready = sym (judge-over t h bytes (ready .tables) (ready .size))
+  pub judge-ready : Ready t (a .history) (a .levels) → judgeWith t (setOf (a .history)) (levelAt (a .levels)) bytes ≡ judgeNumber t a bytes
+  judge-ready ready = sym (judge-with t a bytes (ready .tables) (record { size = ready .size; held = ready .held }))
 
-  pub put-refused : (n : ℕ) → n ≡ ladder (callChecks t h) → n ≢ 0 → h ≡ putHistory t h bytes
-  put-refused n e k = sym (refusals .put t h bytes (λ z. k (judge-refused n e k ∙ z)))
-
-  pub put-ready : Ready t h → (n : ℕ) → n ≡ judgeOver t (setOf h) bytes
-      → recordedIf (eqb n 0) h (requestOf bytes) ≡ putHistory t h bytes
-  unfolding putHistory
-  put-ready ready n e = ap (λ (m : ℕ). recordedIf (eqb m 0) h (requestOf bytes)) (e ∙ judge-ready ready)
+  pub put-refused : (n : ℕ) → n ≡ ladder (callChecks t a) → n ≢ 0 → a ≡ putState t a bytes
+  put-refused n e k = sym (refusals .put t a bytes (λ z. k (judge-refused n e k ∙ z)))
 
 -- ---- run
 
-module _ (t : Tables) (h requests answers : List ℕ) where
-  run-refused : (n : ℕ) → n ≡ ladder (callChecks t h) → n ≢ 0 → runNumber t h requests answers ≡ n
+module _ (t : Tables) (a : State) (requests answers : List ℕ) where
+  run-refused : (n : ℕ) → n ≡ ladder (callChecks t a) → n ≢ 0 → runNumber t a requests answers ≡ n
   unfolding runNumber
-  run-refused n e k = refused-first t h _ (λ z. k (e ∙ z)) ∙ sym e
+  run-refused n e k = refused-first t a _ (λ z. k (e ∙ z)) ∙ sym e
 
-  run-few : ladder (callChecks t h) ≡ 0 → length answers < answersDue requests → runNumber t h requests answers ≡ 18
+  run-few : ladder (callChecks t a) ≡ 0 → length answers < answersDue requests → runNumber t a requests answers ≡ 18
   unfolding runNumber ladder
-  run-few z l = passed-then t h _ z ∙ rw (lt-leb (answersDue requests) (length answers) l)
+  run-few z l = passed-then t a _ z ∙ rw (lt-leb (answersDue requests) (length answers) l)
 
-  run-passed : ladder (callChecks t h) ≡ 0 → answersDue requests ≤ length answers → runNumber t h requests answers ≡ 0
+  run-passed : ladder (callChecks t a) ≡ 0 → answersDue requests ≤ length answers → runNumber t a requests answers ≡ 0
   unfolding runNumber ladder
-  run-passed z l = passed-then t h _ z ∙ rw (le-leb (answersDue requests) (length answers) l)
+  run-passed z l = passed-then t a _ z ∙ rw (le-leb (answersDue requests) (length answers) l)
 
   -- a refused run: its number with counts zero, and every lent byte as it was
-  refused-run : (n : ℕ) → runNumber t h requests answers ≡ n → n ≢ 0 → RunIs t h requests answers (noRun n) h answers
-  unfolding ran runHistory runAnswers noRun
+  refused-run : (n : ℕ) → runNumber t a requests answers ≡ n → n ≢ 0 → RunIs t a requests answers (noRun n) a answers
+  unfolding ran runState runAnswers noRun
   refused-run n e k =
       record {
         returned = rw (e, ne-eqb n 0 k);
@@ -131,57 +153,57 @@ module _ (t : Tables) (h requests answers : List ℕ) where
         answers = rw (e, ne-eqb n 0 k);
       }
 
-  pub run-stopped : (n : ℕ) → n ≡ ladder (callChecks t h) → n ≢ 0 → RunIs t h requests answers (noRun n) h answers
+  pub run-stopped : (n : ℕ) → n ≡ ladder (callChecks t a) → n ≢ 0 → RunIs t a requests answers (noRun n) a answers
   run-stopped n e k = refused-run n (run-refused n e k) k
 
-  pub run-without-room : ladder (callChecks t h) ≡ 0 → length answers < answersDue requests
-      → RunIs t h requests answers (noRun 18) h answers
+  pub run-without-room : ladder (callChecks t a) ≡ 0 → length answers < answersDue requests
+      → RunIs t a requests answers (noRun 18) a answers
   run-without-room z l = refused-run 18 (run-few z l) (omega arith)
 
-  pub run-done : ladder (callChecks t h) ≡ 0 → answersDue requests ≤ length answers → (granted refused : ℕ) (after answered : List ℕ)
-      → granted ≡ grantedIn (putNumbers t h (callsOf requests)) → refused ≡ refusedIn (putNumbers t h (callsOf requests))
-      → after ≡ putHistories t h (callsOf requests)
-      → answered ≡ putNumbers t h (callsOf requests) ++ drop (answersDue requests) answers
-      → RunIs t h requests answers (record { number = 0; granted = granted; refused = refused }) after answered
-  unfolding ran runHistory runAnswers
-  run-done z l granted refused after answered g r a w =
+  pub run-done : ladder (callChecks t a) ≡ 0 → answersDue requests ≤ length answers → (granted refused : ℕ) (after : State) (answered : List ℕ)
+      → granted ≡ grantedIn (putNumbers t a (callsOf requests)) → refused ≡ refusedIn (putNumbers t a (callsOf requests))
+      → after ≡ putStates t a (callsOf requests)
+      → answered ≡ putNumbers t a (callsOf requests) ++ drop (answersDue requests) answers
+      → RunIs t a requests answers (record { number = 0; granted = granted; refused = refused }) after answered
+  unfolding ran runState runAnswers
+  run-done z l granted refused after answered g r left w =
       let e = run-passed z l in
-      record { returned = rw (e, g, r); after = rw e a; answers = rw e w }
+      record { returned = rw (e, g, r); after = rw e left; answers = rw e w }
 
 -- the counts of a run are together at most the answer bytes lent
-pub counts-fit : {t : Tables} {h requests lent : List ℕ} {r : Ran} {left written : List ℕ}
-    → RunIs t h requests lent r left written → r .granted + r .refused ≤ length lent
+pub counts-fit : {t : Tables} {a : State} {requests lent : List ℕ} {r : Ran} {left : State} {written : List ℕ}
+    → RunIs t a requests lent r left written → r .granted + r .refused ≤ length lent
 unfolding ran
-counts-fit {t} {h} {requests} {lent} is =
+counts-fit {t} {a} {requests} {lent} is =
     rw (is .returned)
     (⊎-elim
     (λ y.
-    rw y (room t h requests lent (eqb-true (runNumber t h requests lent) 0 y)))
+    rw y (room t a requests lent (eqb-true (runNumber t a requests lent) 0 y)))
     (λ n. rw n (omega arith))
-    (decide (eqb (runNumber t h requests lent) 0)))
+    (decide (eqb (runNumber t a requests lent) 0)))
 
 -- ---- standing
 
-module _ (t : Tables) (h : List ℕ) (s : ℕ) where
-  refused-standing : (n : ℕ) → standingNumber t h s ≡ n → n ≢ 0 → noStanding n ≡ standing t h s
+module _ (t : Tables) (a : State) (s : ℕ) where
+  refused-standing : (n : ℕ) → standingNumber t a s ≡ n → n ≢ 0 → noStanding n ≡ standing t a s
   unfolding standing noStanding
   refused-standing n e k = rw (e, ne-eqb n 0 k)
 
-  pub standing-refused : (n : ℕ) → n ≡ ladder (callChecks t h) → n ≢ 0 → noStanding n ≡ standing t h s
+  pub standing-refused : (n : ℕ) → n ≡ ladder (callChecks t a) → n ≢ 0 → noStanding n ≡ standing t a s
   unfolding standingNumber
-  standing-refused n e k = refused-standing n (refused-first t h _ (λ z. k (e ∙ z)) ∙ sym e) k
+  standing-refused n e k = refused-standing n (refused-first t a _ (λ z. k (e ∙ z)) ∙ sym e) k
 
-  pub standing-undeclared : ladder (callChecks t h) ≡ 0 → personDeclared t s ≡ false → noStanding 13 ≡ standing t h s
+  pub standing-undeclared : ladder (callChecks t a) ≡ 0 → personDeclared t s ≡ false → noStanding 13 ≡ standing t a s
   unfolding standingNumber ladder
-  standing-undeclared z d = refused-standing 13 (passed-then t h _ z ∙ rw d) (omega arith)
+  standing-undeclared z d = refused-standing 13 (passed-then t a _ z ∙ rw d) (omega arith)
 
   -- the level, and the ones in the two sets of what the person did
-  pub standing-is : ladder (callChecks t h) ≡ 0 → personDeclared t s ≡ true
-      → (past : Past) (level rights firms : ℕ) → past ≡ pastOf t (setOf h) s → level ≡ currentLevel t (setOf h) s
+  pub standing-is : ladder (callChecks t a) ≡ 0 → personDeclared t s ≡ true
+      → (past : Past) (level rights firms : ℕ) → past ≡ pastOf t (setOf (a .history)) s → level ≡ levelAt (a .levels) s
       → rights ≡ countBelow 64 (bit (past .rights)) → firms ≡ countBelow 64 (bit (past .firms))
-      → record { number = 0; level = record { 0 = level }; rights = rights; firms = firms } ≡ standing t h s
+      → record { number = 0; level = record { 0 = level }; rights = rights; firms = firms } ≡ standing t a s
   unfolding standing standingNumber ladder pastOf
   standing-is z d past level rights firms e l p q =
-      let zero : standingNumber t h s ≡ 0 = passed-then t h _ z ∙ rw d in
+      let zero : standingNumber t a s ≡ 0 = passed-then t a _ z ∙ rw d in
       rw (l, p, q, e, zero)
-      (rw (used-count t (setOf h) s, opened-count t (setOf h) s))
+      (rw (used-count t (setOf (a .history)) s, opened-count t (setOf (a .history)) s))

@@ -5,7 +5,7 @@ use mathlib.Core.List.{List}
 use Rattle.policy.specs.declared.Tables.{Tables}
 use Rattle.policy.specs.declared.Ran.{Ran}
 use Rattle.policy.specs.declared.Standing.{Standing}
-use Rattle.policy.specs.Calls.{ran, runHistory, runAnswers}
+use Rattle.policy.specs.Calls.{State, ran, runState, runAnswers}
 
 unfoldable pub noStanding : ℕ → Standing
 noStanding number = record { number = number; level = record { 0 = 0 }; rights = 0; firms = 0 }
@@ -13,8 +13,8 @@ noStanding number = record { number = number; level = record { 0 = 0 }; rights =
 unfoldable pub noRun : ℕ → Ran
 noRun number = record { number = number; granted = 0; refused = 0 }
 
--- what a run returns, and the history and the answer bytes afterwards, are those of the definitions
-pub record RunIs (t : Tables) (h requests lent : List ℕ) (r : Ran) (left written : List ℕ) : Type 0 where
-  pub returned : r ≡ ran t h requests lent
-  pub after : left ≡ runHistory t h requests lent
-  pub answers : written ≡ runAnswers t h requests lent
+-- what a run returns, and the history, the levels and the answer bytes afterwards, are those of the definitions
+pub record RunIs (t : Tables) (a : State) (requests lent : List ℕ) (r : Ran) (left : State) (written : List ℕ) : Type 0 where
+  pub returned : r ≡ ran t a requests lent
+  pub after : left ≡ runState t a requests lent
+  pub answers : written ≡ runAnswers t a requests lent

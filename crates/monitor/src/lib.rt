@@ -1,16 +1,17 @@
-// The calls of the access monitor (document 01, "Requests and calls"). Each ends, on every input, in a published number; a call whose
+// The calls of the access monitor (document 01, "Requests and calls", and document 02). Each ends, on every input, in a published number; a call whose
 // own number is not 0 changes no byte lent to it.
 ghost use mathlib.Core.Path.{_≡_};
 ghost use Prim.Native.Nat.{_<_};
 ghost use Rattle.policy.specs.Rulebook.{loadBook};
 ghost use Rattle.policy.specs.Checks.{ladder};
 ghost use Rattle.policy.specs.Calls.{
+  state,
   blankNumber,
-  blankHistory,
+  blankState,
   restOf,
   callChecks,
   judgeNumber,
-  putHistory,
+  putState,
   standing as standingOf,
 };
 ghost use Rattle.monitor.specs.Refused.{noStanding, noRun, RunIs};
@@ -20,13 +21,6 @@ use policy::Ran;
 use policy::Standing;
 use policy::Tables;
 use policy::numbers;
-
-// Makes a history blank.
-pub fn blank(h: &mut [u8]) -> u8
-    ensures { λ r. ⌜ (r ≡ blankNumber (now (h .entry))) × (now (h .exit) ≡ blankHistory (now (h .entry))) ⌝ }
-{
-    history::blank(h)
-}
 
 // Loads a rulebook.
 pub fn load(book: &[u8]) -> Loaded
@@ -42,12 +36,15 @@ pub fn rest(book: &[u8]) -> &[u8]
     rulebook::rest(book)
 }
 
-// The checks that every call on tables and a history starts with: 0 where they pass.
-fn checked(t: Tables, h: &[u8]) -> u8
-    ensures { λ r. ⌜ r ≡ ladder (callChecks t (now (h .entry))) ⌝ }
+// The checks that every call on tables, a history and levels starts with: 0 where they pass.
+fn checked(t: Tables, h: &[u8], l: &[u8]) -> u8
+    ensures { λ r. ⌜ r ≡ ladder (callChecks t (state (now (h .entry)) (now (l .entry)))) ⌝ }
 {
     if h.len() != history::BYTES {
         return numbers::WRONG_LENGTH;
+    }
+    if l.len() != levels::BYTES {
+        return numbers::WRONG_LEVELS_LENGTH;
     }
     if rulebook::given(t) {
         return numbers::GRANTED;
@@ -55,31 +52,48 @@ fn checked(t: Tables, h: &[u8]) -> u8
     numbers::NOT_GIVEN
 }
 
-// Judges the request at the front of the bytes, and records nothing.
-pub fn judge(t: Tables, h: &[u8], request: &[u8]) -> u8
-    ensures { λ r. ⌜ r ≡ judgeNumber t (now (h .entry)) (now (request .entry)) ⌝ }
-{
-    let number = checked(t, h);
-    if number != numbers::GRANTED {
-        return number;
-    }
-    let words = packing::pack(t);
-    judging::judge_bytes(&words, h, request)
-}
-
-// Judges the request at the front of the bytes, and records it if it is granted.
-pub fn put(t: Tables, h: &mut [u8], request: &[u8]) -> u8
+// Makes a history blank, and stores each person's first level.
+pub fn blank(t: Tables, h: &mut [u8], l: &mut [u8]) -> u8
     ensures { λ r. ⌜
-        (r ≡ judgeNumber t (now (h .entry)) (now (request .entry)))
-        × (now (h .exit) ≡ putHistory t (now (h .entry)) (now (request .entry)))
+        (r ≡ blankNumber t (state (now (h .entry)) (now (l .entry))))
+        × (state (now (h .exit)) (now (l .exit)) ≡ blankState t (state (now (h .entry)) (now (l .entry))))
         ⌝ }
 {
-    let number = checked(t, h);
+    let number = checked(t, h, l);
+    if number != numbers::GRANTED {
+        return number;
+    }
+    history::blank(h);
+    levels::set_first(t, l);
+    numbers::GRANTED
+}
+
+// Judges the request at the front of the bytes, and records nothing.
+pub fn judge(t: Tables, h: &[u8], l: &[u8], request: &[u8]) -> u8
+    ensures { λ r. ⌜ r ≡ judgeNumber t (state (now (h .entry)) (now (l .entry))) (now (request .entry)) ⌝ }
+{
+    let number = checked(t, h, l);
     if number != numbers::GRANTED {
         return number;
     }
     let words = packing::pack(t);
-    running::put_ready(&words, h, request)
+    judging::judge_bytes(&words, h, l, request)
+}
+
+// Judges the request at the front of the bytes; a granted one is recorded, and a granted read or step lowers its person's level.
+pub fn put(t: Tables, h: &mut [u8], l: &mut [u8], request: &[u8]) -> u8
+    ensures { λ r. ⌜
+        (r ≡ judgeNumber t (state (now (h .entry)) (now (l .entry))) (now (request .entry)))
+        × (state (now (h .exit)) (now (l .exit)) ≡ putState t (state (now (h .entry)) (now (l .entry))) (now (request .entry)))
+        ⌝ }
+{
+    let number = checked(t, h, l);
+    if number != numbers::GRANTED {
+        return number;
+    }
+    let words = packing::pack(t);
+    let turn = running::put_next(&words, h, l, request);
+    turn.number
 }
 
 // A refused run.
@@ -94,12 +108,13 @@ fn no_run(number: u8) -> Ran
 }
 
 // Puts the requests of the bytes one after another, and writes one answer byte for each.
-pub fn run(t: Tables, h: &mut [u8], requests: &[u8], answers: &mut [u8]) -> Ran
+pub fn run(t: Tables, h: &mut [u8], l: &mut [u8], requests: &[u8], answers: &mut [u8]) -> Ran
     ensures { λ r. ⌜
-        RunIs t (now (h .entry)) (now (requests .entry)) (now (answers .entry)) r (now (h .exit)) (now (answers .exit))
+        RunIs t (state (now (h .entry)) (now (l .entry))) (now (requests .entry)) (now (answers .entry)) r
+        (state (now (h .exit)) (now (l .exit))) (now (answers .exit))
         ⌝ }
 {
-    let number = checked(t, h);
+    let number = checked(t, h, l);
     if number != numbers::GRANTED {
         return no_run(number);
     }
@@ -107,7 +122,7 @@ pub fn run(t: Tables, h: &mut [u8], requests: &[u8], answers: &mut [u8]) -> Ran
         return no_run(numbers::TOO_FEW_ANSWERS);
     }
     let words = packing::pack(t);
-    let counts = running::run_ready(&words, h, requests, answers);
+    let counts = running::run_ready(&words, h, l, requests, answers);
     Ran {
         number: numbers::GRANTED,
         granted: counts.granted,
@@ -127,11 +142,11 @@ fn no_standing(number: u8) -> Standing
     }
 }
 
-// A person's current level, the number of rights used and the number of firms opened.
-pub fn standing(t: Tables, h: &[u8], person: u8) -> Standing
-    ensures { λ r. ⌜ r ≡ standingOf t (now (h .entry)) person ⌝ }
+// A person's stored level, the number of rights used and the number of firms opened.
+pub fn standing(t: Tables, h: &[u8], l: &[u8], person: u8) -> Standing
+    ensures { λ r. ⌜ r ≡ standingOf t (state (now (h .entry)) (now (l .entry))) person ⌝ }
 {
-    let number = checked(t, h);
+    let number = checked(t, h, l);
     if number != numbers::GRANTED {
         return no_standing(number);
     }
@@ -140,12 +155,10 @@ pub fn standing(t: Tables, h: &[u8], person: u8) -> Standing
     if !packed::is_person(&words, s) {
         return no_standing(numbers::UNDECLARED);
     }
-    let stepped = past::steps::stepped_by(h, s);
-    let did = past::past_of(&words, h, s, stepped);
-    let level = past::levels::level_with(&words, h, s, stepped);
+    let did = past::past_of(&words, h, s, past::steps::stepped_by(h, s));
     Standing {
         number: numbers::GRANTED,
-        level,
+        level: levels::entry(l, s),
         rights: bits::count64(did.rights),
         firms: bits::count64(did.firms),
     }

@@ -1,5 +1,5 @@
 -- The agreement, for every rulebook that loads and any two lists of put calls from blank. Its parts are shown elsewhere: tables in Loads,
--- numbers, histories and future in Histories, the order of steps in StepOrder, reorderings in Reordering. Here they are put together:
+-- numbers, histories, levels and future in Histories, the order of steps in StepOrder, reorderings in Reordering. Here they are put together:
 -- the granted requests of a list, newest first, are those of its calls answered 0 the other way round.
 use Prim.Native.Nat.{ℕ}
 use native.Mathlib.Nat.{ℕ-set}
@@ -24,10 +24,15 @@ use mathlib.Core.List.{
   List·Memᴰ·cases-cons,
 }
 use lib.Dec.{eqb}
+use Rattle.bits.proofs.Booleans.{false-elim, false-intro}
 use Rattle.policy.specs.declared.Tables.{Tables}
-use Rattle.policy.specs.Tables.{inForce, lowWaterRule, pipelineRule}
+use Rattle.policy.specs.Tables.{personDeclared, inForce, lowWaterRule, pipelineRule}
 use Rattle.policy.specs.Rulebook.{given, loadBook}
-use Rattle.policy.specs.Request.{Request, read, write, start, step, member}
+use Rattle.policy.specs.Request.{Request, read, write, start, step, setOf, member}
+use Rattle.policy.specs.Levels.{levelAt}
+use Rattle.policy.specs.Calls.{State, putStates}
+use Rattle.policy.specs.Published.{Observed}
+use Rattle.policy.specs.Held.{HoldsCurrent, HoldsZero}
 use Rattle.policy.specs.Agreement.{FromBlank, granted, SameSet, Done, stepsOn, Throughout, Claim}
 use Rattle.policy.specs.Ways.{Way, Enables}
 use Rattle.policy.proofs.Circles.{no-circle}
@@ -37,9 +42,16 @@ use Rattle.policy.proofs.Histories.{
   numbers-over,
   granted-reverse,
   granted-member,
+  stands-granted,
   equal-histories,
+  equal-levels,
   same-future,
+  levels-stand,
 }
+use Rattle.policy.proofs.Fronts.{is-person}
+use Rattle.policy.proofs.GivenEntries.{undeclared-person}
+use Rattle.policy.proofs.Published.{level-is-meet}
+use Rattle.policy.proofs.Lowering.{level-first, observer-declared}
 use Rattle.policy.proofs.Loads.{loaded-given, loaded-sets, loaded-no-circle}
 use Rattle.policy.proofs.Holding.{loaded-holds}
 use Rattle.policy.proofs.Reordering.{zeros-granted, granted-zeros, reordered}
@@ -77,39 +89,59 @@ perm-in (List·Permᴰ·swap e f) x h =
     (List·Memᴰ·cases-cons h)
 perm-in (List·Permᴰ·trans d d′) x h = perm-in d x (perm-in d′ x h)
 
-module _ (t : Tables) (ok : given t ≡ true) (h h′ : List ℕ) (blank : FromBlank h) (blank′ : FromBlank h′) (xs ys : List (List ℕ)) where
-  steps-in-order : inForce t pipelineRule ≡ true → ((p : ℕ) → Way (Enables t) p p → ⊥) → SameSet (granted t h xs) (granted t h′ ys)
-      → (o : ℕ) → stepsOn o (granted t h xs) ≡ stepsOn o (granted t h′ ys)
+module _ (t : Tables) (ok : given t ≡ true) (a b : State) (blank : FromBlank t a) (blank′ : FromBlank t b) (xs ys : List (List ℕ)) where
+  steps-in-order : inForce t pipelineRule ≡ true → ((p : ℕ) → Way (Enables t) p p → ⊥) → SameSet (granted t a xs) (granted t b ys)
+      → (o : ℕ) → stepsOn o (granted t a xs) ≡ stepsOn o (granted t b ys)
   unfolding stepsOn
   steps-in-order on none same o =
       let members : (r : Request) → member (grantedOver t [] xs) r ≡ member (grantedOver t [] ys) r =
-      λ r. sym (granted-member t ok h xs r blank) ∙ same-members _ _ same r ∙ granted-member t ok h′ ys r blank′ in
-      ap (stepsOn o) (granted-reverse t ok h xs blank)
+      λ r. sym (granted-member t ok a xs r blank) ∙ same-members _ _ same r ∙ granted-member t ok b ys r blank′ in
+      ap (stepsOn o) (granted-reverse t ok a xs blank)
       ∙ steps-reversed o (grantedOver t [] xs) []
       ∙ ap reverse (same-order t on none xs ys members o)
       ∙ sym (steps-reversed o (grantedOver t [] ys) [])
-      ∙ ap (stepsOn o) (sym (granted-reverse t ok h′ ys blank′))
+      ∙ ap (stepsOn o) (sym (granted-reverse t ok b ys blank′))
 
-  every-order : inForce t lowWaterRule ≡ false → inForce t pipelineRule ≡ false → Perm xs ys → Throughout t h xs → Throughout t h′ ys
+  every-order : inForce t lowWaterRule ≡ false → inForce t pipelineRule ≡ false → Perm xs ys → Throughout t a xs → Throughout t b ys
   every-order low pipe perm zeros n m =
       ∥∥₁-elim perm (ℕ-set n 0) (λ d.
       granted-zeros t [] ys
       (reordered t low pipe xs ys (perm-in d)
-      (zeros-granted t [] xs (λ k i. zeros k (rw (numbers-over t ok h xs blank) i)))) n
-      (rw (numbers-over t ok h′ ys blank′) at m))
+      (zeros-granted t [] xs (λ k i. zeros k (rw (numbers-over t ok a xs blank) i)))) n
+      (rw (numbers-over t ok b ys blank′) at m))
+
+  -- ---- the levels
+
+  held-current : HoldsCurrent t (putStates t a xs)
+  unfolding levelAt
+  held-current s person = rw (levels-stand t ok a xs blank s (person .0)) (level-is-meet t (setOf (putStates t a xs .history)) s)
+
+  -- an undeclared person read and stepped on nothing, and the first level is zero
+  held-zero : HoldsZero t (putStates t a xs)
+  unfolding levelAt
+  held-zero s below nobody =
+      let undeclared = false-intro (personDeclared t s) (λ d. nobody (is-person t s .0 d)) in
+      let H = setOf (putStates t a xs .history) in
+      levels-stand t ok a xs blank s below
+      ∙ level-first t H s (λ o w. false-elim (personDeclared t s) undeclared (observer-declared t H s o w))
+      ∙ undeclared-person t s ok below undeclared
 
 -- the agreement of every rulebook that loads
 pub agreement : Claim
-agreement book ok h h′ blank blank′ xs ys =
+agreement book ok a b blank blank′ xs ys =
     let t = loadBook book .tables in
     let given-tables = loaded-given book ok in
     record {
       tables = loaded-holds book ok;
-      numbers = numbers-over t given-tables h xs blank;
-      histories = equal-histories t given-tables h h′ xs ys blank blank′;
-      future = same-future t given-tables h h′ xs ys blank blank′;
+      numbers = numbers-over t given-tables a xs blank;
+      histories = equal-histories t given-tables a b xs ys blank blank′;
+      levels = equal-levels t given-tables a b xs ys blank blank′;
+      size = stands-granted t given-tables a xs blank .current .size;
+      held = held-current t given-tables a b blank blank′ xs ys;
+      others = held-zero t given-tables a b blank blank′ xs ys;
+      future = same-future t given-tables a b xs ys blank blank′;
       steps = λ on.
-          steps-in-order t given-tables h h′ blank blank′ xs ys on
+          steps-in-order t given-tables a b blank blank′ xs ys on
           (no-circle t (loaded-sets book ok) (loaded-no-circle book ok));
-      orders = every-order t given-tables h h′ blank blank′ xs ys;
+      orders = every-order t given-tables a b blank blank′ xs ys;
     }

@@ -16,7 +16,10 @@ use Rattle.policy.specs.Tables.{inForce}
 use Rattle.policy.specs.Rulebook.{given}
 use Rattle.policy.specs.History.{historyBytes}
 use Rattle.policy.specs.Request.{Request, requestOf, setOf}
+use Rattle.policy.specs.Levels.{levelsBytes, levelAt}
+use Rattle.policy.specs.Rules.{declared, lowWater}
 use Rattle.policy.specs.Calls.{
+  State,
   blankNumber,
   requestChecks,
   callChecks,
@@ -28,6 +31,7 @@ use Rattle.policy.specs.Calls.{
   standingNumber,
   standing,
 }
+use Rattle.policy.specs.Published.{LowWater, LowWaterHeld}
 use Rattle.policy.specs.Given.{OfType, LoadGives}
 use Rattle.policy.specs.Causes.{
   Cause,
@@ -41,9 +45,10 @@ use Rattle.policy.specs.Causes.{
 }
 use Rattle.policy.specs.Checks.{Check, ladder}
 use Rattle.policy.specs.Demands.{Causes}
-use Rattle.policy.proofs.Answers.{Numbered, Refuses, refuses-not, no-rows, one-row, no-row, last-row}
+use Rattle.policy.proofs.Answers.{Numbered, Refuses, refuses-not, no-rows, one-row, then-row, no-row, last-row}
 use Rattle.policy.proofs.Fronts.{front-only, front-none, is-person, parties-declared}
-use Rattle.policy.proofs.Published.{wall-published, low-water-published, roles-published, pipeline-published}
+use Rattle.policy.proofs.Published.{wall-published, roles-published, pipeline-published}
+use Rattle.policy.proofs.Held.{low-water-held, low-water-by-set, held-levels}
 use Rattle.policy.proofs.PublishedNumbers.{ran-number, standing-number}
 use Rattle.policy.proofs.Turned.{turns-of, turns-once}
 use Rattle.policy.proofs.Books.{gives}
@@ -64,53 +69,58 @@ refuses-rule on permits {fact} w = (
   λ x. false-intro (on implies permits) (λ e. x .1 (w .0 (implies-elim on permits e (x .0)))),
 )
 
--- the checks 10 and 11, before others
-module _ (t : Tables) (typed : OfType t) (h : List ℕ) where
+-- the checks 10, 20 and 11, before others
+module _ (t : Tables) (typed : OfType t) (a : State) where
   given-exactly : (given t ≡ true) ↔ LoadGives t
   given-exactly = (λ e. gives t .0 (typed, e), λ w. gives t .1 w .1)
 
   call-rows : {checks : List Check} {causes : List Cause} → Numbered checks causes
-      → Numbered (callChecks t h ++ checks) (callCauses t h ++ causes)
+      → Numbered (callChecks t a ++ checks) (callCauses t a ++ causes)
   unfolding callChecks
-  call-rows rest = one-row refl (refuses-length (length h) historyBytes) (one-row refl (refuses-not given-exactly) rest)
+  call-rows rest =
+      one-row refl (refuses-length (length (a .history)) historyBytes)
+      (one-row refl (refuses-length (length (a .levels)) levelsBytes) (one-row refl (refuses-not given-exactly) rest))
 
-  -- the checks of the request at the front
-  request-rows : (bytes : List ℕ) (r : Request) → requestOf bytes ≡ some r
-      → Numbered (callChecks t h ++ requestChecks t (setOf h) (some r)) (judgeCauses t h bytes)
-  unfolding requestChecks inForce
-  request-rows bytes r e =
-      call-rows
-      (no-row (λ none-there. none-there (front-only bytes r (λ r. Unit {0}) e .0 tt))
-      (one-row refl (at-front (refuses-not (parties-declared t r)))
-      (one-row refl (at-front (refuses-rule _ _ (wall-published t (setOf h) r)))
-      (one-row refl (at-front (refuses-rule _ _ (low-water-published t (setOf h) r)))
-      (one-row refl (at-front (refuses-rule _ _ (roles-published t (setOf h) r)))
-      (one-row refl (at-front (refuses-rule _ _ (pipeline-published t (setOf h) r))) no-rows))))))
-    where
-      at-front : {permits : Bool} {P : Request → Type 0} → Refuses permits (P r) → Refuses permits (RequestAtFront bytes P)
-      at-front {permits} {P} w =
-          let here = front-only bytes r P e in
-          (λ f. here .0 (w .0 f), λ x. w .1 (here .1 x))
+  -- judging: the checks of the request at the front, where low-water permits a request of declared parties exactly where a fact holds
+  module _ (LowWater : Request → Type 0)
+      (levelled : (r : Request) → declared t r ≡ true → (lowWater t (levelAt (a .levels)) r ≡ true) ↔ LowWater r) where
+    request-rows : (bytes : List ℕ) (r : Request) → requestOf bytes ≡ some r
+        → Numbered (callChecks t a ++ requestChecks t (setOf (a .history)) (levelAt (a .levels)) (some r)) (judgeCauses t a bytes LowWater)
+    unfolding requestChecks inForce
+    request-rows bytes r e =
+        call-rows
+        (no-row (λ none-there. none-there (front-only bytes r (λ r. Unit {0}) e .0 tt))
+        (then-row refl (at-front (refuses-not (parties-declared t r))) (λ known.
+        one-row refl (at-front (refuses-rule _ _ (wall-published t (setOf (a .history)) r)))
+        (one-row refl (at-front (refuses-rule _ _ (levelled r known)))
+        (one-row refl (at-front (refuses-rule _ _ (roles-published t (setOf (a .history)) r)))
+        (one-row refl (at-front (refuses-rule _ _ (pipeline-published t (setOf (a .history)) r))) no-rows))))))
+      where
+        at-front : {permits : Bool} {P : Request → Type 0} → Refuses permits (P r) → Refuses permits (RequestAtFront bytes P)
+        at-front {permits} {P} w =
+            let here = front-only bytes r P e in
+            (λ f. here .0 (w .0 f), λ x. w .1 (here .1 x))
 
-  no-request-rows : (bytes : List ℕ) → requestOf bytes ≡ none
-      → Numbered (callChecks t h ++ requestChecks t (setOf h) none) (judgeCauses t h bytes)
-  unfolding requestChecks
-  no-request-rows bytes e = call-rows (last-row refl refl (front-none bytes e))
+    no-request-rows : (bytes : List ℕ) → requestOf bytes ≡ none
+        → Numbered (callChecks t a ++ requestChecks t (setOf (a .history)) (levelAt (a .levels)) none) (judgeCauses t a bytes LowWater)
+    unfolding requestChecks
+    no-request-rows bytes e = call-rows (last-row refl refl (front-none bytes e))
 
-  judge-causes : (bytes : List ℕ) (n : ℕ) → (judgeNumber t h bytes ≡ n) ↔ Answer (judgeCauses t h bytes) n
-  unfolding judgeNumber
-  judge-causes bytes n = go (requestOf bytes) refl
-    where
-      go : (r : Option Request) → requestOf bytes ≡ r
-          → (ladder (callChecks t h ++ requestChecks t (setOf h) (requestOf bytes)) ≡ n) ↔ Answer (judgeCauses t h bytes) n
-      go none e = rw e (no-request-rows bytes e .number n)
-      go (some r) e = rw e (request-rows bytes r e .number n)
+    judge-causes : (bytes : List ℕ) (n : ℕ) → (judgeNumber t a bytes ≡ n) ↔ Answer (judgeCauses t a bytes LowWater) n
+    unfolding judgeNumber
+    judge-causes bytes n = go (requestOf bytes) refl
+      where
+        go : (r : Option Request) → requestOf bytes ≡ r
+            → (ladder (callChecks t a ++ requestChecks t (setOf (a .history)) (levelAt (a .levels)) (requestOf bytes)) ≡ n)
+            ↔ Answer (judgeCauses t a bytes LowWater) n
+        go none e = rw e (no-request-rows bytes e .number n)
+        go (some r) e = rw e (request-rows bytes r e .number n)
 
   run-causes : (requests answers : List ℕ) (n : ℕ)
-      → (ran t h requests answers .number ≡ n) ↔ Answer (runCauses t h requests answers) n
+      → (ran t a requests answers .number ≡ n) ↔ Answer (runCauses t a requests answers) n
   unfolding runNumber answersDue
   run-causes requests answers n =
-      rw (ran-number t h requests answers)
+      rw (ran-number t a requests answers)
       (call-rows (one-row refl too-few no-rows) .number n)
     where
       too-few : Refuses (leb (length (callsOf requests)) (length answers))
@@ -122,17 +132,25 @@ module _ (t : Tables) (typed : OfType t) (h : List ℕ) where
             lt-leb (length (callsOf requests)) (length answers) (rw (turns-once turns) at few),
       )
 
-  standing-causes : (s n : ℕ) → (standing t h s .number ≡ n) ↔ Answer (standingCauses t h s) n
+  standing-causes : (s n : ℕ) → (standing t a s .number ≡ n) ↔ Answer (standingCauses t a s) n
   unfolding standingNumber
   standing-causes s n =
-      rw (standing-number t h s) (call-rows (one-row refl (refuses-not (is-person t s)) no-rows) .number n)
+      rw (standing-number t a s) (call-rows (one-row refl (refuses-not (is-person t s)) no-rows) .number n)
+
+-- blank has the checks of every call, and no other
+blank-causes : (t : Tables) (typed : OfType t) (a : State) (n : ℕ) → (blankNumber t a ≡ n) ↔ Answer (callCauses t a) n
+unfolding blankNumber callChecks
+blank-causes t typed a n = call-rows t typed a no-rows .number n
 
 pub causes : Causes
-unfolding blankNumber
 causes =
     record {
-      blank = λ h n. one-row refl (refuses-length (length h) historyBytes) no-rows .number n;
-      judge = λ t h bytes n typed. judge-causes t typed h bytes n;
-      run = λ t h requests answers n typed. run-causes t typed h requests answers n;
-      standing = λ t h s n typed. standing-causes t typed h s n;
+      blank = λ t a n typed. blank-causes t typed a n;
+      judge = λ t a bytes n typed.
+          judge-causes t typed a (LowWaterHeld t (a .levels)) (λ r known. low-water-held t (a .levels) r) bytes n;
+      judgeBySet = λ t a bytes n typed held.
+          judge-causes t typed a (LowWater t (setOf (a .history)))
+          (low-water-by-set t (setOf (a .history)) (levelAt (a .levels)) (held-levels t a held)) bytes n;
+      run = λ t a requests answers n typed. run-causes t typed a requests answers n;
+      standing = λ t a s n typed. standing-causes t typed a s n;
     }

@@ -1,13 +1,13 @@
 -- What the test for tables that a load gives says of each entry: it is blank, or declared and in range. The test joins eight others by
 -- "and"; they are taken apart, and then each entry's own test by whether it is declared.
 use Prim.Native.Nat.{ℕ, _≤_, _<_}
-use mathlib.Core.Path.{_≡_}
+use mathlib.Core.Path.{_≡_, ap}
 use mathlib.Core.Logic.{_⊎_, inl, inr, ⊎-elim}
 use mathlib.Core.Bool.{Bool, true, false, not, _&&_}
 use native.Mathlib.Omega.{arith}
 use lib.Dec.{eqb, leb, ltb}
-use borrow.Author.Tests.{leb-true, ltb-true, eqb-true, not-true}
-use Rattle.bits.proofs.Booleans.{and-left, and-right, decide}
+use borrow.Author.Tests.{leb-true, ltb-true, lt-ltb, eqb-true, not-true}
+use Rattle.bits.proofs.Booleans.{and-left, and-right, and-both, decide, false-elim}
 use Rattle.bits.specs.Bounded.{allBelow}
 use Rattle.bits.proofs.Bounds.{all-at}
 use Rattle.policy.specs.declared.Firm.{Firm}
@@ -26,6 +26,7 @@ use Rattle.policy.specs.Tables.{
   roleAt,
   enables,
   firmDeclared,
+  personDeclared,
   folderDeclared,
 }
 use Rattle.policy.specs.Rulebook.{
@@ -140,6 +141,16 @@ person-cases e g =
     let q : record { declared = e .declared; level = record { 0 = e .level .0 } } ≡ noPerson = cc in
     inl q)
     (decide (e .declared))
+
+-- the first level of an undeclared person is zero
+pub undeclared-person : (t : Tables) (s : ℕ) → given t ≡ true → s < 64 → personDeclared t s ≡ false → personAt t s .level .0 ≡ 0
+unfolding personDeclared
+undeclared-person t s ok below none-declared =
+    ⊎-elim (λ e. ap (λ (x : Person). x .level .0) e)
+    (λ e.
+    let marked : personAt t s .declared ≡ true = ap (λ (x : Person). x .declared) e in
+    absurd (false-elim (ltb s 64 && personAt t s .declared) none-declared (and-both _ _ (lt-ltb s 64 below) marked)))
+    (person-cases (personAt t s) (given-entries t ok .persons s below))
 
 pub folder-cases : (t : Tables) (e : Folder) → folderGiven t e ≡ true
     → (e ≡ noFolder)

@@ -15,15 +15,19 @@ use Rattle.policy.specs.Checks.{ladder}
 use Rattle.policy.specs.Tables.{inForce, wallRule, lowWaterRule, rolesRule, pipelineRule}
 use Rattle.policy.specs.Request.{Request, requestOf, member}
 use Rattle.policy.specs.Rules.{declared, wall, lowWater, currentLevel, roles, pipeline}
-use Rattle.policy.specs.Calls.{requestChecks, judgeOver, addedIf, judgeList}
+use Rattle.policy.specs.Calls.{requestChecks, judgeWith, judgeOver, addedIf, judgeList}
 
 -- every check of a request passes
-pub record Passed (t : Tables) (H : Request → Bool) (r : Request) : Type 0 where
+pub record Passed (t : Tables) (H : Request → Bool) (levels : ℕ → ℕ) (r : Request) : Type 0 where
   pub parties : declared t r ≡ true
   pub walled : (inForce t wallRule implies wall t H r) ≡ true
-  pub levelled : (inForce t lowWaterRule implies lowWater t (currentLevel t H) r) ≡ true
+  pub levelled : (inForce t lowWaterRule implies lowWater t levels r) ≡ true
   pub covered : (inForce t rolesRule implies roles t H r) ≡ true
   pub piped : (inForce t pipelineRule implies pipeline t H r) ≡ true
+
+-- with the levels that the set gives
+abbrev pub PassedOver : Tables → (Request → Bool) → Request → Type 0
+PassedOver t H r = Passed t H (currentLevel t H) r
 
 cond-zero : (c : Bool) (n m : ℕ) → cond c m (suc n) ≡ 0 → (c ≡ true) × (m ≡ 0)
 cond-zero true n m e = (refl, e)
@@ -33,39 +37,49 @@ zero-cond : (c : Bool) (n m : ℕ) → c ≡ true → m ≡ 0 → cond c m n ≡
 zero-cond true n m p e = e
 zero-cond false n m p e = absurd (false≢true p)
 
-module _ (t : Tables) (H : Request → Bool) where
-  pub checks-passed : (r : Request) → ladder (requestChecks t H (some r)) ≡ 0 → Passed t H r
+module _ (t : Tables) (H : Request → Bool) (levels : ℕ → ℕ) where
+  pub checks-passed : (r : Request) → ladder (requestChecks t H levels (some r)) ≡ 0 → Passed t H levels r
   unfolding ladder requestChecks
   checks-passed r e =
       let a = cond-zero (declared t r) 12 _ e in
       let b = cond-zero (inForce t wallRule implies wall t H r) 13 _ (a .1) in
-      let c = cond-zero (inForce t lowWaterRule implies lowWater t (currentLevel t H) r) 14 _ (b .1) in
+      let c = cond-zero (inForce t lowWaterRule implies lowWater t levels r) 14 _ (b .1) in
       let d = cond-zero (inForce t rolesRule implies roles t H r) 15 _ (c .1) in
       let f = cond-zero (inForce t pipelineRule implies pipeline t H r) 16 _ (d .1) in
       record { parties = a .0; walled = b .0; levelled = c .0; covered = d .0; piped = f .0 }
 
-  pub passed-checks : (r : Request) → Passed t H r → ladder (requestChecks t H (some r)) ≡ 0
+  pub passed-checks : (r : Request) → Passed t H levels r → ladder (requestChecks t H levels (some r)) ≡ 0
   unfolding ladder requestChecks
   passed-checks r p =
       zero-cond (declared t r) 13 _ (p .parties)
       (zero-cond (inForce t wallRule implies wall t H r) 14 _ (p .walled)
-      (zero-cond (inForce t lowWaterRule implies lowWater t (currentLevel t H) r) 15 _ (p .levelled)
+      (zero-cond (inForce t lowWaterRule implies lowWater t levels r) 15 _ (p .levelled)
       (zero-cond (inForce t rolesRule implies roles t H r) 16 _ (p .covered)
       (zero-cond (inForce t pipelineRule implies pipeline t H r) 17 _ (p .piped) refl))))
 
-  pub judge-passed : (bytes : List ℕ) → judgeOver t H bytes ≡ 0
-      → (r : Request) × (requestOf bytes ≡ some r) × Passed t H r
-  unfolding judgeOver ladder requestChecks
-  judge-passed bytes e = go (requestOf bytes) refl e
+  pub with-passed : (bytes : List ℕ) → judgeWith t H levels bytes ≡ 0
+      → (r : Request) × (requestOf bytes ≡ some r) × Passed t H levels r
+  unfolding judgeWith ladder requestChecks
+  with-passed bytes e = go (requestOf bytes) refl e
     where
-      go : (d : Option Request) → requestOf bytes ≡ d → ladder (requestChecks t H d) ≡ 0
-          → (r : Request) × (requestOf bytes ≡ some r) × Passed t H r
+      go : (d : Option Request) → requestOf bytes ≡ d → ladder (requestChecks t H levels d) ≡ 0
+          → (r : Request) × (requestOf bytes ≡ some r) × Passed t H levels r
       go none q z = let y : ⊥ = omega arith in absurd y
       go (some r) q z = (r, q, checks-passed r z)
 
-  pub passed-judge : (bytes : List ℕ) (r : Request) → requestOf bytes ≡ some r → Passed t H r → judgeOver t H bytes ≡ 0
+  pub passed-with : (bytes : List ℕ) (r : Request) → requestOf bytes ≡ some r → Passed t H levels r → judgeWith t H levels bytes ≡ 0
+  unfolding judgeWith
+  passed-with bytes r q p = ap (λ (d : Option Request). ladder (requestChecks t H levels d)) q ∙ passed-checks r p
+
+module _ (t : Tables) (H : Request → Bool) where
+  pub judge-passed : (bytes : List ℕ) → judgeOver t H bytes ≡ 0
+      → (r : Request) × (requestOf bytes ≡ some r) × PassedOver t H r
   unfolding judgeOver
-  passed-judge bytes r q p = ap (λ (d : Option Request). ladder (requestChecks t H d)) q ∙ passed-checks r p
+  judge-passed bytes e = with-passed t H (currentLevel t H) bytes e
+
+  pub passed-judge : (bytes : List ℕ) (r : Request) → requestOf bytes ≡ some r → PassedOver t H r → judgeOver t H bytes ≡ 0
+  unfolding judgeOver
+  passed-judge bytes r q p = passed-with t H (currentLevel t H) bytes r q p
 
 -- the granted requests after one put, newest first
 unfoldable pub putOver : Tables → List Request → List ℕ → List Request
@@ -102,7 +116,7 @@ judge-more t g bytes calls = refl
 
 -- one request after another: what holds of the granted requests, and is kept by every granted one, holds after the list
 pub granted-keeps : (t : Tables) (P : List Request → Type 0)
-    → ((g : List Request) (r : Request) → P g → Passed t (member g) r → P (r ∷ g))
+    → ((g : List Request) (r : Request) → P g → PassedOver t (member g) r → P (r ∷ g))
     → (g : List Request) (calls : List (List ℕ)) → P g → P (grantedOver t g calls)
 unfolding grantedOver
 granted-keeps t P more g [] p = p

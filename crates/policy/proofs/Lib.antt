@@ -40,6 +40,8 @@ pub mod WallNumber
 pub mod MarksAlone
 pub mod PublicFolders
 pub mod Lowering
+pub mod LevelBytes
+pub mod Held
 pub mod LevelNumber
 pub mod StepsAlter
 pub mod Blanks

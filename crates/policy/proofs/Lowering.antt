@@ -8,18 +8,12 @@ use Rattle.bits.proofs.Booleans.{and-left, and-right, and-both}
 use Rattle.level.specs.Levels.{atMost, meetOf}
 use Rattle.level.proofs.LevelLaws.{split}
 use Rattle.policy.specs.declared.Tables.{Tables}
-use Rattle.policy.specs.Tables.{personAt, folderAt}
+use Rattle.policy.specs.Tables.{personAt, folderAt, personDeclared}
 use Rattle.policy.specs.Request.{Request, read, write, start, step}
 use Rattle.policy.specs.Rules.{declared, currentLevel}
-use Rattle.policy.specs.Published.{InHistory, Observed}
+use Rattle.policy.specs.Published.{Observes, InHistory, Observed}
+use Rattle.policy.proofs.Requests.{declared-person}
 use Rattle.policy.proofs.Published.{level-is-meet, one-level}
-
--- the request is a read or a step of person s on folder o
-abbrev pub Observes : Request → ℕ → ℕ → Type 0
-Observes (read s o) s′ o′ = (s ≡ s′) × (o ≡ o′)
-Observes (write s o) s′ o′ = ⊥
-Observes (start s u) s′ o′ = ⊥
-Observes (step s p o) s′ o′ = (s ≡ s′) × (o ≡ o′)
 
 -- ---- one folder more
 
@@ -59,6 +53,12 @@ pub level-first : (t : Tables) (H : Request → Bool) (s : ℕ) → ((o : ℕ) �
 level-first t H s none =
     one-level t H s _ _ (level-is-meet t H s) (λ c. (λ e. (e, λ o w. absurd (none o w)), λ below. below .0))
 
+-- who read or stepped on a folder is declared
+pub observer-declared : (t : Tables) (H : Request → Bool) (s o : ℕ) → Observed t H s o → personDeclared t s ≡ true
+unfolding declared
+observer-declared t H s o w =
+    ⊎-elim (λ h. and-left (personDeclared t s) _ (h .0)) (λ v. let (p, h) = v in declared-person t s p o (h .0)) w
+
 -- ---- one request more
 
 module _ (t : Tables) (H H′ : Request → Bool) (r : Request) (known : declared t r ≡ true)
@@ -89,3 +89,21 @@ module _ (t : Tables) (H H′ : Request → Bool) (r : Request) (known : declare
         ⊎-elim (λ v. observed-new r s o (known, added r .1 (inl refl)) v)
         (λ v. ⊎-elim (λ h. inl (kept (read s o) h)) (λ k. let (p, h) = k in inr (p, kept (step s p o) h)) v) w,
   )
+
+  -- the level of a person whose read or step on folder o it is, and of any other person
+  pub level-own : (s o : ℕ) → ((i : ℕ) → (Observes r s i) ↔ (o ≡ i))
+      → currentLevel t H′ s ≡ meetOf 12 (currentLevel t H s) (folderAt t o .level .0)
+  level-own s o own =
+      level-met t H H′ s o (λ i.
+      let more = observed-more s i in (
+        λ w. ⊎-elim (λ v. inl (own i .0 v)) (λ v. inr v) (more .0 w),
+        λ w. more .1 (⊎-elim (λ v. inl (own i .1 v)) (λ v. inr v) w),
+      ))
+
+  pub level-others : (s : ℕ) → ((i : ℕ) → Observes r s i → ⊥) → currentLevel t H′ s ≡ currentLevel t H s
+  level-others s other =
+      level-stays t H H′ s (λ i.
+      let more = observed-more s i in (
+        λ w. ⊎-elim (λ v. absurd (other i v)) (λ v. v) (more .0 w),
+        λ w. more .1 (inr w),
+      ))

@@ -37,6 +37,7 @@ use Rattle.policy.specs.Rulebook.{
   loadBook,
 }
 use Rattle.policy.specs.Request.{subject, two, three, requestOf, recordLength, same, member}
+use Rattle.policy.specs.Levels.{levelAt, withLevelAt, metWith, lowered}
 use Rattle.policy.specs.Rules.{
   declared,
   right,
@@ -66,6 +67,7 @@ use Rattle.policy.specs.Rules.{
 use Rattle.policy.specs.Calls.{
   restOf,
   requestChecks,
+  judgeWith,
   judgeOver,
   addedIf,
   judgeList,
@@ -75,7 +77,7 @@ use Rattle.policy.specs.Calls.{
   grantedIn,
   refusedIn,
 }
-use Rattle.policy.specs.Marked.{wallAnswer, lowWaterAnswer, withTotals, MarkedCases}
+use Rattle.policy.specs.Marked.{wallAnswer, lowWaterAnswer, heldAnswer, withTotals, MarkedCases}
 
 pub marked-cases : MarkedCases
 unfolding
@@ -84,8 +86,8 @@ unfolding
     declaredBefore firmStands folderStands entersCreate recordChecks madePublic declare reaches hasCircle isLoose hasLoose endChecks
     refusedBook ended loadFrom loadBook subject two three requestOf recordLength same member declared right did stepped accessed firmOfSome
     counts counted otherClass wallAccess wall observed loweredBy currentLevel someRequest used roleCovers roles done leadsTo pipelineStep
-    pipeline mayModify lowWater restOf requestChecks judgeOver addedIf judgeList afterRecord callsFrom callsOf grantedIn refusedIn
-    wallAnswer lowWaterAnswer withTotals
+    pipeline mayModify lowWater restOf requestChecks judgeWith judgeOver addedIf judgeList afterRecord callsFrom callsOf grantedIn refusedIn
+    levelAt withLevelAt metWith lowered wallAnswer lowWaterAnswer heldAnswer withTotals
 marked-cases =
     record {
       P1 = refl;
@@ -101,4 +103,9 @@ marked-cases =
       P9-other = refl;
       P10 = refl;
       steps = refl;
+      held-step = refl;
+      held-read = refl;
+      held-write = refl;
+      held-high = refl;
+      held-low = refl;
     }

@@ -5,10 +5,10 @@ use Prim.Native.Nat.{ℕ, zero, suc, _+_}
 use mathlib.Core.Path.{_≡_, refl, sym, ap, ap₂, _∙_, fun-ext}
 use mathlib.Core.Logic.{_≢_}
 use mathlib.Core.Bool.{Bool, true, false, cond, not, _&&_, _||_}
-use mathlib.Core.List.{List, [], _∷_, _++_}
+use mathlib.Core.List.{List, [], _∷_}
 use mathlib.Core.Option.{Option, none, some}
 use lib.Dec.{eqb, leb, ltb}
-use lib.ListN.{length, getD}
+use lib.ListN.{getD}
 use Rattle.bits.specs.Bits.{bit}
 use Rattle.bits.specs.Bounded.{anyBelow, allBelow, foldBelow, _implies_}
 use Rattle.level.specs.Levels.{atMost, meetOf}
@@ -35,8 +35,7 @@ use Rattle.policy.specs.Tables.{
   pipelineRule,
 }
 use Rattle.policy.specs.Rulebook.{given}
-use Rattle.policy.specs.History.{historyBytes}
-use Rattle.policy.specs.Request.{Request, read, write, start, step, subject, setOf}
+use Rattle.policy.specs.Request.{Request, read, write, start, step, subject, requestOf, recorded, setOf}
 use Rattle.policy.specs.Rules.{
   declared,
   right,
@@ -64,12 +63,32 @@ use Rattle.policy.specs.Rules.{
   mayModify,
   lowWater,
 }
-use Rattle.policy.specs.Calls.{requestChecks, callChecks, standingNumber, standing}
+use Rattle.policy.specs.Levels.{levelAt, withLevelAt, metWith, lowered}
+use Rattle.policy.specs.Calls.{
+  State,
+  state,
+  requestChecks,
+  callChecks,
+  judgeNumber,
+  recordedIf,
+  putState,
+  standingNumber,
+  standing,
+}
 use Rattle.policy.specs.Published.{Access, Accessed}
 use Rattle.policy.specs.PublicFolders.{SameButMarks, SameMark}
 use Rattle.policy.proofs.Accesses.{accessed-some}
 use Rattle.policy.proofs.Books.{gives}
-use Rattle.policy.proofs.WallNumber.{numberOf, afterWall, walled, judged-as, same-later}
+use Rattle.policy.proofs.WallNumber.{
+  numberOf,
+  sizeRight,
+  heldRight,
+  afterWall,
+  walled,
+  judgedNumber,
+  judged-as,
+  same-later,
+}
 
 module _ (t t′ : Tables) (same : SameButMarks t t′) where
   -- ---- the tables
@@ -115,6 +134,37 @@ module _ (t t′ : Tables) (same : SameButMarks t t′) where
   right-same (start s u) = refl
   right-same (step s p o) = refl
 
+  -- ---- low-water, with the same levels
+
+  modify-same : (levels : ℕ → ℕ) (s o : ℕ) → mayModify t levels s o ≡ mayModify t′ levels s o
+  unfolding mayModify
+  modify-same levels s o = ap (λ (x : ℕ). atMost 12 x (levels s)) (same .folders o .level)
+
+  low-water-same : (levels : ℕ → ℕ) (r : Request) → lowWater t levels r ≡ lowWater t′ levels r
+  unfolding lowWater
+  low-water-same levels (read s o) = refl
+  low-water-same levels (write s o) = modify-same levels s o
+  low-water-same levels (start s u) = refl
+  low-water-same levels (step s p o) = modify-same levels s o
+
+  -- ---- what a granted request lowers
+
+  met-same : (l : List ℕ) (s o : ℕ) → metWith t l s o ≡ metWith t′ l s o
+  unfolding metWith
+  met-same l s o = ap (λ (x : ℕ). withLevelAt l s (meetOf 12 (levelAt l s) x)) (same .folders o .level)
+
+  lowered-same : (l : List ℕ) (r : Request) → lowered t l r ≡ lowered t′ l r
+  unfolding lowered
+  lowered-same l (read s o) = met-same l s o
+  lowered-same l (write s o) = refl
+  lowered-same l (start s u) = refl
+  lowered-same l (step s p o) = met-same l s o
+
+  recorded-same : (a : State) (q : Option Request) → recordedIf t true a q ≡ recordedIf t′ true a q
+  unfolding recordedIf
+  recorded-same a none = refl
+  recorded-same a (some r) = ap (state (recorded (a .history) r)) (lowered-same (a .levels) r)
+
   module _ (H : Request → Bool) where
     -- ---- what was done
 
@@ -134,6 +184,16 @@ module _ (t t′ : Tables) (same : SameButMarks t t′) where
     unfolding observed
     observed-same s i = ap₂ _||_ (did-same (read s i)) (stepped-same s i)
 
+    lowered-by-same : (s o l : ℕ) → loweredBy t H s o l ≡ loweredBy t′ H s o l
+    unfolding loweredBy
+    lowered-by-same s o l = ap₂ (λ (b : Bool) (x : ℕ). cond b (meetOf 12 l x) l) (observed-same s o) (same .folders o .level)
+
+    pub level-same : (s : ℕ) → currentLevel t H s ≡ currentLevel t′ H s
+    unfolding currentLevel
+    level-same s =
+        ap₂ (λ (f : ℕ → ℕ → ℕ) (first : ℕ). foldBelow 128 f first) (fun-ext (λ o. fun-ext (λ l. lowered-by-same s o l)))
+        (ap (λ (l : List Person). getD l s noPerson .level .0) (same .persons))
+
     opened-same : (s f : ℕ) → opened t H s f ≡ opened t′ H s f
     unfolding opened firmOfSome
     opened-same s f =
@@ -145,28 +205,7 @@ module _ (t t′ : Tables) (same : SameButMarks t t′) where
         ap (λ (p : Request → Bool). someRequest p s)
         (fun-ext (λ q. ap₂ _&&_ (did-same q) (ap (λ (y : ℕ). eqb y x) (right-same q))))
 
-    -- ---- low-water, roles and pipeline
-
-    lowered-same : (s o l : ℕ) → loweredBy t H s o l ≡ loweredBy t′ H s o l
-    unfolding loweredBy
-    lowered-same s o l = ap₂ (λ (b : Bool) (x : ℕ). cond b (meetOf 12 l x) l) (observed-same s o) (same .folders o .level)
-
-    level-same : currentLevel t H ≡ currentLevel t′ H
-    unfolding currentLevel
-    level-same =
-        fun-ext (λ s. ap₂ (λ (f : ℕ → ℕ → ℕ) (first : ℕ). foldBelow 128 f first) (fun-ext (λ o. fun-ext (λ l. lowered-same s o l)))
-        (ap (λ (l : List Person). getD l s noPerson .level .0) (same .persons)))
-
-    modify-same : (s o : ℕ) → mayModify t (currentLevel t H) s o ≡ mayModify t′ (currentLevel t′ H) s o
-    unfolding mayModify
-    modify-same s o = ap₂ (λ (x : ℕ) (f : ℕ → ℕ). atMost 12 x (f s)) (same .folders o .level) level-same
-
-    low-water-same : (r : Request) → lowWater t (currentLevel t H) r ≡ lowWater t′ (currentLevel t′ H) r
-    unfolding lowWater
-    low-water-same (read s o) = refl
-    low-water-same (write s o) = modify-same s o
-    low-water-same (start s u) = ap (λ (f : ℕ → ℕ). atMost 12 (f u) (f s)) level-same
-    low-water-same (step s p o) = modify-same s o
+    -- ---- roles and pipeline
 
     covers-same : (r : Request) (k : ℕ) → roleCovers t H r k ≡ roleCovers t′ H r k
     unfolding roleCovers
@@ -198,10 +237,17 @@ module _ (t t′ : Tables) (same : SameButMarks t t′) where
     pipeline-same (step s zero o) = ap (λ (f : ℕ → Bool). not (anyBelow 16 f)) (fun-ext (λ d. done-same o d))
     pipeline-same (step s (suc q) o) = ap (anyBelow 16) (fun-ext (λ p. leads-same o (suc q) p))
 
-    after-same : (r : Request) → afterWall t H r ≡ afterWall t′ H r
+    after-same : (levels : ℕ → ℕ) (r : Request) → afterWall t H levels r ≡ afterWall t′ H levels r
     unfolding afterWall
-    after-same r =
-        rw (force-same lowWaterRule, force-same rolesRule, force-same pipelineRule, low-water-same r, roles-same r, pipeline-same r)
+    after-same levels r =
+        rw (
+          force-same lowWaterRule,
+          force-same rolesRule,
+          force-same pipelineRule,
+          low-water-same levels r,
+          roles-same r,
+          pipeline-same r,
+        )
 
     -- ---- the wall, where the marks that it asks about are the same
 
@@ -232,47 +278,53 @@ module _ (t t′ : Tables) (same : SameButMarks t t′) where
 
 -- ---- the claims
 
-module _ (t t′ : Tables) (same : SameButMarks t t′) (h : List ℕ) where
-  pub others-same : (r : Request) (s o : ℕ) → Access r s o → SameMark t t′ o → ((i : ℕ) → Accessed t (setOf h) s i → SameMark t t′ i)
-      → ladder (callChecks t h ++ requestChecks t (setOf h) (some r)) ≡ ladder (callChecks t′ h ++ requestChecks t′ (setOf h) (some r))
-  unfolding walled
-  others-same r s o a mark marks =
-      let whole : numberOf (eqb (length h) historyBytes) (given t) (declared t r) (walled t (setOf h) r) (afterWall t (setOf h) r)
-      ≡ numberOf (eqb (length h) historyBytes) (given t′) (declared t′ r) (walled t′ (setOf h) r) (afterWall t′ (setOf h) r) =
+module _ (t t′ : Tables) (same : SameButMarks t t′) (a : State) where
+  H : Request → Bool
+  H = setOf (a .history)
+
+  levels : ℕ → ℕ
+  levels = levelAt (a .levels)
+
+  pub others-same : (r : Request) (s o : ℕ) → Access r s o → SameMark t t′ o
+      → ((i : ℕ) → Accessed t (setOf (a .history)) s i → SameMark t t′ i) → judgedNumber t a (some r) ≡ judgedNumber t′ a (some r)
+  unfolding walled H levels
+  others-same r s o access mark marks =
+      let whole : numberOf (sizeRight a) (heldRight a) (given t) (declared t r) (walled t H r) (afterWall t H levels r)
+      ≡ numberOf (sizeRight a) (heldRight a) (given t′) (declared t′ r) (walled t′ H r) (afterWall t′ H levels r) =
       rw (
         given-same t t′ same,
         parties-same t t′ same r,
         force-same t t′ same wallRule,
-        wall-same t t′ same (setOf h) s marks r o a mark,
-        after-same t t′ same (setOf h) r,
+        wall-same t t′ same H s marks r o access mark,
+        after-same t t′ same H levels r,
       ) in
-      judged-as t h r ∙ whole ∙ sym (judged-as t′ h r)
+      judged-as t a r ∙ whole ∙ sym (judged-as t′ a r)
 
-  pub elsewhere-same : (q : Option Request)
-      → ladder (callChecks t h ++ requestChecks t (setOf h) q) ≢ 14 → ladder (callChecks t′ h ++ requestChecks t′ (setOf h) q) ≢ 14
-      → ladder (callChecks t h ++ requestChecks t (setOf h) q) ≡ ladder (callChecks t′ h ++ requestChecks t′ (setOf h) q)
-  unfolding callChecks requestChecks
+  pub elsewhere-same : (q : Option Request) → judgedNumber t a q ≢ 14 → judgedNumber t′ a q ≢ 14 → judgedNumber t a q ≡ judgedNumber t′ a q
+  unfolding judgedNumber callChecks requestChecks H levels
   elsewhere-same (some r) n n′ =
-      let size = eqb (length h) historyBytes in
-      let whole : numberOf size (given t′) (declared t′ r) (walled t′ (setOf h) r) (afterWall t′ (setOf h) r)
-      ≡ numberOf size (given t) (declared t r) (walled t′ (setOf h) r) (afterWall t (setOf h) r) =
-      rw (given-same t t′ same, parties-same t t′ same r, after-same t t′ same (setOf h) r) in
-      judged-as t h r
-      ∙ same-later size (given t) (declared t r) (walled t (setOf h) r) (walled t′ (setOf h) r) (afterWall t (setOf h) r)
-      (λ e. n (judged-as t h r ∙ e)) (λ e. n′ (judged-as t′ h r ∙ whole ∙ e))
-      ∙ sym whole ∙ sym (judged-as t′ h r)
+      let whole : numberOf (sizeRight a) (heldRight a) (given t′) (declared t′ r) (walled t′ H r) (afterWall t′ H levels r)
+      ≡ numberOf (sizeRight a) (heldRight a) (given t) (declared t r) (walled t′ H r) (afterWall t H levels r) =
+      rw (given-same t t′ same, parties-same t t′ same r, after-same t t′ same H levels r) in
+      judged-as t a r
+      ∙ same-later (sizeRight a) (heldRight a) (given t) (declared t r) (walled t H r) (walled t′ H r) (afterWall t H levels r)
+      (λ e. n (judged-as t a r ∙ e)) (λ e. n′ (judged-as t′ a r ∙ whole ∙ e))
+      ∙ sym whole ∙ sym (judged-as t′ a r)
   elsewhere-same none n n′ =
-      ap (λ (g : Bool). ladder ((eqb (length h) historyBytes else 10) ∷ (g else 11) ∷ (false else 12) ∷ [])) (given-same t t′ same)
+      ap (λ (g : Bool). ladder ((sizeRight a else 10) ∷ (heldRight a else 20) ∷ (g else 11) ∷ (false else 12) ∷ []))
+      (given-same t t′ same)
 
-  number-same : (s : ℕ) → standingNumber t h s ≡ standingNumber t′ h s
+  number-same : (s : ℕ) → standingNumber t a s ≡ standingNumber t′ a s
   unfolding standingNumber callChecks
   number-same s = rw (given-same t t′ same, person-same t t′ same s)
 
-  pub standing-same : (s : ℕ) → standing t h s ≡ standing t′ h s
-  unfolding standing
+  pub standing-same : (s : ℕ) → standing t a s ≡ standing t′ a s
+  unfolding standing H
   standing-same s =
-      let levels : currentLevel t (setOf h) s ≡ currentLevel t′ (setOf h) s =
-      ap (λ (f : ℕ → ℕ). f s) (level-same t t′ same (setOf h)) in
-      let rights : used t (setOf h) s ≡ used t′ (setOf h) s = fun-ext (used-same t t′ same (setOf h) s) in
-      let firms : opened t (setOf h) s ≡ opened t′ (setOf h) s = fun-ext (opened-same t t′ same (setOf h) s) in
-      rw (number-same s, levels, rights, firms)
+      let rights : used t H s ≡ used t′ H s = fun-ext (used-same t t′ same H s) in
+      let firms : opened t H s ≡ opened t′ H s = fun-ext (opened-same t t′ same H s) in
+      rw (number-same s, rights, firms)
+
+  pub put-same : (bytes : List ℕ) → judgeNumber t a bytes ≡ 0 → judgeNumber t′ a bytes ≡ 0 → putState t a bytes ≡ putState t′ a bytes
+  unfolding putState
+  put-same bytes e e′ = rw (e, e′) (recorded-same t t′ same a (requestOf bytes))

@@ -4,34 +4,34 @@ use Prim.Native.Nat.{ℕ}
 use mathlib.Core.Path.{_≡_, refl, sym, ap, ap₂, _∙_, fun-ext}
 use mathlib.Core.Logic.{⊎-elim}
 use mathlib.Core.Bool.{Bool, true, false, not, _&&_, _||_}
-use mathlib.Core.List.{List, _++_}
 use mathlib.Core.Option.{Option, none, some}
 use lib.Dec.{eqb}
-use lib.ListN.{length}
 use Rattle.bits.specs.Bounded.{anyBelow, allBelow, _implies_}
 use Rattle.bits.proofs.Booleans.{or-left, implies-intro, decide}
 use Rattle.policy.specs.declared.Tables.{Tables}
-use Rattle.policy.specs.Checks.{ladder}
 use Rattle.policy.specs.Tables.{folderAt, classOf, isPublic, inForce, wallRule}
 use Rattle.policy.specs.Rulebook.{given}
-use Rattle.policy.specs.History.{historyBytes}
 use Rattle.policy.specs.Request.{Request, read, write, start, step, requestOf, setOf}
 use Rattle.policy.specs.Rules.{declared, firmOfSome, did, stepped, accessed, counts, counted, otherClass, wallAccess, wall}
-use Rattle.policy.specs.Calls.{requestChecks, callChecks, judgeNumber}
+use Rattle.policy.specs.Levels.{levelAt}
+use Rattle.policy.specs.Calls.{State, judgeNumber}
 use Rattle.policy.specs.Published.{NotPublic, Access}
 use Rattle.policy.specs.PublicFolders.{SameButPublic, PublicFolders}
 use Rattle.policy.proofs.Fronts.{front-request}
 use Rattle.policy.proofs.WallNumber.{
   numberOf,
+  sizeRight,
+  heldRight,
   afterWall,
   walled,
   after-other,
+  judgedNumber,
   judged-as,
   cut-as,
   passed-other,
   same-fourteen,
 }
-use Rattle.policy.proofs.MarksAlone.{others-same, elsewhere-same, standing-same}
+use Rattle.policy.proofs.MarksAlone.{level-same, others-same, elsewhere-same, standing-same, put-same}
 
 -- ---- what the wall asks of the past
 
@@ -85,33 +85,44 @@ public-wall t H (step s n o) s′ o′ a p = or-left (isPublic t o) _ (rw (a .1)
 
 -- ---- the claims
 
-one-way : (t : Tables) (h h′ : List ℕ) → SameButPublic t h h′ → (q : Option Request)
-    → ladder (callChecks t h ++ requestChecks t (setOf h) q) ≡ 14 → ladder (callChecks t h′ ++ requestChecks t (setOf h′) q) ≡ 14
+one-way : (t : Tables) (a b : State) → SameButPublic t a b → (q : Option Request) → judgedNumber t a q ≡ 14 → judgedNumber t b q ≡ 14
 unfolding walled
-one-way t h h′ (size, same) (some r) e =
-    let a = eqb (length h) historyBytes in
-    let walls : walled t (setOf h) r ≡ walled t (setOf h′) r =
-    ap (λ (b : Bool). inForce t wallRule implies b) (same-wall t (setOf h) (setOf h′) same r) in
-    let later : numberOf a (given t) (declared t r) (walled t (setOf h) r) (afterWall t (setOf h′) r) ≡ 14 =
-    same-fourteen a (given t) (declared t r) (walled t (setOf h) r) (afterWall t (setOf h) r) _ (after-other t (setOf h) r)
-    (sym (judged-as t h r) ∙ e) in
-    judged-as t h′ r ∙ rw (size, walls) at later
-one-way t h h′ (size, same) none e = cut-as t h h′ size ∙ e
+one-way t a b same (some r) e =
+    let H = setOf (a .history) in
+    let H′ = setOf (b .history) in
+    let walls : walled t H r ≡ walled t H′ r =
+    ap (λ (x : Bool). inForce t wallRule implies x) (same-wall t H H′ (same .accesses) r) in
+    let later : numberOf (sizeRight a) (heldRight a) (given t) (declared t r) (walled t H r) (afterWall t H′ (levelAt (b .levels)) r) ≡ 14 =
+    same-fourteen (sizeRight a) (heldRight a) (given t) (declared t r) (walled t H r) (afterWall t H (levelAt (a .levels)) r) _
+    (after-other t H (levelAt (a .levels)) r) (sym (judged-as t a r) ∙ e) in
+    judged-as t b r ∙ rw (same .histories, same .levels, walls) at later
+one-way t a b same none e = cut-as t a b (same .histories) (same .levels) ∙ e
+
+back : (t : Tables) (a b : State) → SameButPublic t a b → SameButPublic t b a
+back t a b same =
+    record {
+      histories = sym (same .histories);
+      levels = sym (same .levels);
+      accesses = λ q s o access n. sym (same .accesses q s o access n);
+    }
 
 pub public-folders : PublicFolders
-unfolding judgeNumber walled
+unfolding judgeNumber judgedNumber walled
 public-folders =
     record {
-      passed = λ t h bytes rest r s o front a p.
-          rw (front-request r rest front, judged-as t h r)
-          (passed-other (eqb (length h) historyBytes) (given t) (declared t r) (walled t (setOf h) r) (afterWall t (setOf h) r)
-          (implies-intro (inForce t wallRule) _ (λ on. public-wall t (setOf h) r s o a p)) (after-other t (setOf h) r));
-      uncounted = λ t h h′ bytes same. (
-        one-way t h h′ same (requestOf bytes),
-        one-way t h′ h (sym (same .0), λ q s o a n. sym (same .1 q s o a n)) (requestOf bytes),
+      passed = λ t a bytes rest r s o front access p.
+          let H = setOf (a .history) in
+          rw (front-request r rest front, judged-as t a r)
+          (passed-other (sizeRight a) (heldRight a) (given t) (declared t r) (walled t H r) (afterWall t H (levelAt (a .levels)) r)
+          (implies-intro (inForce t wallRule) _ (λ on. public-wall t H r s o access p)) (after-other t H (levelAt (a .levels)) r));
+      uncounted = λ t a b bytes same. (
+        one-way t a b same (requestOf bytes),
+        one-way t b a (back t a b same) (requestOf bytes),
       );
-      others = λ t t′ h bytes rest r s o same front a mark marks.
-          rw (front-request r rest front) (others-same t t′ same h r s o a mark marks);
-      elsewhere = λ t t′ h bytes same n n′. elsewhere-same t t′ same h (requestOf bytes) n n′;
-      standings = λ t t′ h s same. standing-same t t′ same h s;
+      others = λ t t′ a bytes rest r s o same front access mark marks.
+          rw (front-request r rest front) (others-same t t′ same a r s o access mark marks);
+      elsewhere = λ t t′ a bytes same n n′. elsewhere-same t t′ same a (requestOf bytes) n n′;
+      standings = λ t t′ a s same. standing-same t t′ same a s;
+      puts = λ t t′ a bytes same. put-same t t′ same a bytes;
+      levels = λ t t′ h s same. level-same t t′ same (setOf h) s;
     }

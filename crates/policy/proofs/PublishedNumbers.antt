@@ -2,7 +2,7 @@
 -- book comes to a refusal with a published number, or to tables with the number 0.
 use Prim.Native.Nat.{ℕ, zero, suc, _+_}
 use mathlib.Core.Path.{_≡_, refl, sym}
-use mathlib.Core.Bool.{true}
+use mathlib.Core.Bool.{Bool, true}
 use mathlib.Core.List.{List, [], _∷_, _++_, List·Memᴰ, List·Memᴰ·head, List·Memᴰ·tail, Memᴰ·cast}
 use mathlib.Core.Option.{Option, none, some}
 use lib.Dec.{eqb}
@@ -24,8 +24,9 @@ use Rattle.policy.specs.Rulebook.{
   loadFrom,
   loadBook,
 }
-use Rattle.policy.specs.Request.{Request, requestOf, setOf}
+use Rattle.policy.specs.Request.{Request, requestOf}
 use Rattle.policy.specs.Calls.{
+  State,
   blankNumber,
   requestChecks,
   callChecks,
@@ -73,33 +74,33 @@ module _ (P : Loaded → Type 0) (refusal : (n at : ℕ) → List·Memᴰ n book
 
 -- ---- every number
 
-judge-number : (t : Tables) (h : List ℕ) (r : Option Request)
-    → List·Memᴰ (ladder (callChecks t h ++ requestChecks t (setOf h) r)) (0 ∷ 10 ∷ 11 ∷ 12 ∷ 13 ∷ 14 ∷ 15 ∷ 16 ∷ 17 ∷ [])
+judge-number : (t : Tables) (a : State) (H : Request → Bool) (levels : ℕ → ℕ) (r : Option Request)
+    → List·Memᴰ (ladder (callChecks t a ++ requestChecks t H levels r)) (0 ∷ 10 ∷ 20 ∷ 11 ∷ 12 ∷ 13 ∷ 14 ∷ 15 ∷ 16 ∷ 17 ∷ [])
 unfolding callChecks requestChecks
-judge-number t h none = all-stand-in _ _ _ refl (ladder-member (callChecks t h ++ requestChecks t (setOf h) none))
-judge-number t h (some r) = all-stand-in _ _ _ refl (ladder-member (callChecks t h ++ requestChecks t (setOf h) (some r)))
+judge-number t a H levels none = all-stand-in _ _ _ refl (ladder-member (callChecks t a ++ requestChecks t H levels none))
+judge-number t a H levels (some r) = all-stand-in _ _ _ refl (ladder-member (callChecks t a ++ requestChecks t H levels (some r)))
 
 -- the number that a run, and a standing, has is the number of its checks
-pub ran-number : (t : Tables) (h requests answers : List ℕ) → ran t h requests answers .number ≡ runNumber t h requests answers
+pub ran-number : (t : Tables) (a : State) (requests answers : List ℕ) → ran t a requests answers .number ≡ runNumber t a requests answers
 unfolding ran
-ran-number t h requests answers =
-    by-test (λ (r : Ran). r .number ≡ runNumber t h requests answers) (eqb (runNumber t h requests answers) 0) _ _
-    (λ e. sym (eqb-true (runNumber t h requests answers) 0 e)) (λ e. refl)
+ran-number t a requests answers =
+    by-test (λ (r : Ran). r .number ≡ runNumber t a requests answers) (eqb (runNumber t a requests answers) 0) _ _
+    (λ e. sym (eqb-true (runNumber t a requests answers) 0 e)) (λ e. refl)
 
-pub standing-number : (t : Tables) (h : List ℕ) (s : ℕ) → standing t h s .number ≡ standingNumber t h s
+pub standing-number : (t : Tables) (a : State) (s : ℕ) → standing t a s .number ≡ standingNumber t a s
 unfolding standing
-standing-number t h s =
-    by-test (λ (r : Standing). r .number ≡ standingNumber t h s) (eqb (standingNumber t h s) 0) _ _
-    (λ e. sym (eqb-true (standingNumber t h s) 0 e)) (λ e. refl)
+standing-number t a s =
+    by-test (λ (r : Standing). r .number ≡ standingNumber t a s) (eqb (standingNumber t a s) 0) _ _
+    (λ e. sym (eqb-true (standingNumber t a s) 0 e)) (λ e. refl)
 
 pub numbers : Numbers
 unfolding blankNumber callChecks loadBook refusedBook judgeNumber runNumber standingNumber
 numbers =
     record {
-      blank = λ h. ladder-member _;
+      blank = λ t a. ladder-member _;
       load =
           λ book. load-cases (λ l. List·Memᴰ (l .number) bookNumbers) (λ n at i. i) (λ at t. List·Memᴰ·head refl) (length book) 0 book _;
-      judge = λ t h bytes. judge-number t h (requestOf bytes);
-      run = λ t h requests answers. Memᴰ·cast (ran-number t h requests answers) (ladder-member _);
-      standing = λ t h s. Memᴰ·cast (standing-number t h s) (ladder-member _);
+      judge = λ t a bytes. judge-number t a _ _ (requestOf bytes);
+      run = λ t a requests answers. Memᴰ·cast (ran-number t a requests answers) (ladder-member _);
+      standing = λ t a s. Memᴰ·cast (standing-number t a s) (ladder-member _);
     }

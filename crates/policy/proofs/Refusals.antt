@@ -32,15 +32,16 @@ use Rattle.policy.specs.Rulebook.{
   loadBook,
 }
 use Rattle.policy.specs.Calls.{
+  State,
   blankNumber,
-  blankHistory,
+  blankState,
   restOf,
   recordedIf,
   judgeNumber,
-  putHistory,
+  putState,
   runNumber,
   ran,
-  runHistory,
+  runState,
   runAnswers,
   standingNumber,
   standing,
@@ -61,20 +62,20 @@ refused-tables book =
     load-cases (λ l. l .number ≢ 0 → l .tables ≡ emptyTables) (λ n at i e. refl) (λ at t e. absurd (e refl))
     (length book) 0 book emptyTables
 
-pub put-refused : (t : Tables) (h bytes : List ℕ) → judgeNumber t h bytes ≢ 0 → putHistory t h bytes ≡ h
-unfolding putHistory recordedIf
-put-refused t h bytes n = rw (ne-eqb (judgeNumber t h bytes) 0 n)
+pub put-refused : (t : Tables) (a : State) (bytes : List ℕ) → judgeNumber t a bytes ≢ 0 → putState t a bytes ≡ a
+unfolding putState recordedIf
+put-refused t a bytes n = rw (ne-eqb (judgeNumber t a bytes) 0 n)
 
 pub refusals : Refusals
-unfolding blankHistory ran runHistory runAnswers standing restOf
+unfolding blankState ran runState runAnswers standing restOf
 refusals =
     record {
-      blank = λ h n. rw (ne-eqb (blankNumber h) 0 n);
+      blank = λ t a n. rw (ne-eqb (blankNumber t a) 0 n);
       put = put-refused;
       run =
-          λ t h requests answers n.
-          let e = ne-eqb (runNumber t h requests answers) 0 (λ z. n (ran-number t h requests answers ∙ z)) in
+          λ t a requests answers n.
+          let e = ne-eqb (runNumber t a requests answers) 0 (λ z. n (ran-number t a requests answers ∙ z)) in
           (rw e, rw e, rw e, rw e);
-      standing = λ t h s n. let e = ne-eqb (standingNumber t h s) 0 (λ z. n (standing-number t h s ∙ z)) in (rw e, rw e, rw e);
+      standing = λ t a s n. let e = ne-eqb (standingNumber t a s) 0 (λ z. n (standing-number t a s ∙ z)) in (rw e, rw e, rw e);
       load = λ book n. (refused-tables book n ∙ sym empty-book, rw (ne-eqb (loadBook book .number) 0 n));
     }

@@ -40,7 +40,7 @@ use Rattle.policy.specs.Published.{requester, rightOf, rivalsOf, NotPubl
 use Rattle.policy.proofs.Requests.{member-none, member-head, member-tail, member-cases}
 use Rattle.policy.proofs.Accesses.{counted-some, some-counted}
 use Rattle.policy.proofs.Published.{wall-published, roles-published}
-use Rattle.policy.proofs.Granted.{Passed, judge-passed, passed-judge, putOver, put-granted, grantedOver, judge-more}
+use Rattle.policy.proofs.Granted.{PassedOver, judge-passed, passed-judge, putOver, put-granted, grantedOver, judge-more}
 
 -- the folders' firms are one, or of different classes
 Compatible : Tables → ℕ → ℕ → Type 0
@@ -83,7 +83,7 @@ fair-none t =
       role = λ on r h. absurd (false-elim (member [] r) (member-none r) h);
     }
 
-module _ (t : Tables) (g : List Request) (r : Request) (fair : Fair t (member g)) (p : Passed t (member g) r) where
+module _ (t : Tables) (g : List Request) (r : Request) (fair : Fair t (member g)) (p : PassedOver t (member g) r) where
   more-known : (q : Request) → member (r ∷ g) q ≡ true → declared t q ≡ true
   more-known q m = ⊎-elim (λ e. rw e (p .parties)) (λ h. fair .known q h) (member-cases r q g m)
 
@@ -164,7 +164,7 @@ module _ (t : Tables) (S H : Request → Bool) (fair : Fair t S) (part : (q : Re
       let (k, d, c) = fair .role on r m in
       (k, d, λ q w. ⊎-elim (λ e. rw e (c r m refl)) (λ i. c q (part q (i .0 .1)) (i .1)) w)
 
-  fair-passed : inForce t lowWaterRule ≡ false → inForce t pipelineRule ≡ false → (r : Request) → S r ≡ true → Passed t H r
+  fair-passed : inForce t lowWaterRule ≡ false → inForce t pipelineRule ≡ false → (r : Request) → S r ≡ true → PassedOver t H r
   fair-passed low pipe r m =
       record {
         parties = fair .known r m;

@@ -12,8 +12,9 @@ use borrow.Author.Tests.{eqb-true, eqb-false, eq-eqb, ne-eqb, leb-true, not-true
 use Rattle.bits.proofs.Booleans.{decide}
 use Rattle.policy.specs.declared.Tables.{Tables}
 use Rattle.policy.specs.Calls.{
+  State,
   callChecks,
-  putHistory,
+  putState,
   putNumbers,
   callsOf,
   answersDue,
@@ -21,7 +22,7 @@ use Rattle.policy.specs.Calls.{
   refusedIn,
   runNumber,
   ran,
-  runHistory,
+  runState,
   runAnswers,
 }
 use Rattle.policy.specs.Counting.{NumberOf}
@@ -31,10 +32,10 @@ use Rattle.policy.proofs.PublishedNumbers.{ran-number}
 use Rattle.policy.proofs.Turned.{turns-of, turns-once}
 use Rattle.policy.proofs.Counts.{count-number, granted-places, refused-places}
 
-pub numbers-length : (t : Tables) (h : List ℕ) (calls : List (List ℕ)) → length (putNumbers t h calls) ≡ length calls
+pub numbers-length : (t : Tables) (a : State) (calls : List (List ℕ)) → length (putNumbers t a calls) ≡ length calls
 unfolding putNumbers
-numbers-length t h [] = refl
-numbers-length t h (bytes ∷ calls) = ap suc (numbers-length t (putHistory t h bytes) calls)
+numbers-length t a [] = refl
+numbers-length t a (bytes ∷ calls) = ap suc (numbers-length t (putState t a bytes) calls)
 
 pub counted-once : (numbers : List ℕ) → grantedIn numbers + refusedIn numbers ≡ length numbers
 unfolding grantedIn refusedIn
@@ -44,19 +45,19 @@ counted-once (n ∷ numbers) =
     ⊎-elim (λ e. rw e (omega arith)) (λ e. rw e (omega arith)) (decide (eqb n 0))
 
 -- there is room for the answers
-run-room : (t : Tables) (h requests answers : List ℕ) → runNumber t h requests answers ≡ 0 → answersDue requests ≤ length answers
+run-room : (t : Tables) (a : State) (requests answers : List ℕ) → runNumber t a requests answers ≡ 0 → answersDue requests ≤ length answers
 unfolding runNumber callChecks
-run-room t h requests answers e =
-    leb-true (answersDue requests) (length answers) (permit-first (permit-rest (permit-rest (ladder-zero _ refl e))))
+run-room t a requests answers e =
+    leb-true (answersDue requests) (length answers) (permit-first (permit-rest (permit-rest (permit-rest (ladder-zero _ refl e)))))
 
 -- the answers of a run whose checks pass are counted once, and there is room for them
-pub counts-fit : (t : Tables) (h requests answers : List ℕ) → runNumber t h requests answers ≡ 0
-    → grantedIn (putNumbers t h (callsOf requests)) + refusedIn (putNumbers t h (callsOf requests)) ≤ length answers
+pub counts-fit : (t : Tables) (a : State) (requests answers : List ℕ) → runNumber t a requests answers ≡ 0
+    → grantedIn (putNumbers t a (callsOf requests)) + refusedIn (putNumbers t a (callsOf requests)) ≤ length answers
 unfolding answersDue
-counts-fit t h requests answers e =
-    let room = run-room t h requests answers e in
-    let all = counted-once (putNumbers t h (callsOf requests)) in
-    let size = numbers-length t h (callsOf requests) in
+counts-fit t a requests answers e =
+    let room = run-room t a requests answers e in
+    let all = counted-once (putNumbers t a (callsOf requests)) in
+    let size = numbers-length t a (callsOf requests) in
     omega arith
 
 -- the zeros among the first bytes of a list, and the others, where these bytes are the numbers
@@ -78,15 +79,15 @@ module _ (numbers after : List ℕ) (count : ℕ) (all : length numbers ≡ coun
       (λ k w. (w .0, λ z. eqb-false _ 0 (not-true _ (w .1)) (sym (same-byte k (w .0)) ∙ z)))
       (λ k w. (w .0, ap not (ne-eqb _ 0 (λ z. w .1 (same-byte k (w .0) ∙ z))))))
 
-module _ (t : Tables) (h requests answers : List ℕ) (z : ran t h requests answers .number ≡ 0) where
-  running : Running t h requests answers (callsOf requests)
-  unfolding answersDue runHistory runAnswers ran
+module _ (t : Tables) (a : State) (requests answers : List ℕ) (z : ran t a requests answers .number ≡ 0) where
+  running : Running t a requests answers (callsOf requests)
+  unfolding answersDue runState runAnswers ran
   running =
-      let e : runNumber t h requests answers ≡ 0 = sym (ran-number t h requests answers) ∙ z in
-      let numbers = putNumbers t h (callsOf requests) in
-      let all : length numbers ≡ length (callsOf requests) = numbers-length t h (callsOf requests) in
+      let e : runNumber t a requests answers ≡ 0 = sym (ran-number t a requests answers) ∙ z in
+      let numbers = putNumbers t a (callsOf requests) in
+      let all : length numbers ≡ length (callsOf requests) = numbers-length t a (callsOf requests) in
       record {
-        history = rw e;
+        left = rw e;
         written = rw e;
         granted = rw e (zeros-counted numbers (drop (length (callsOf requests)) answers) _ all);
         refused = rw e (others-counted numbers (drop (length (callsOf requests)) answers) _ all);
@@ -98,5 +99,5 @@ runs =
     record {
       turns = λ requests. (callsOf requests, turns-of requests);
       once = λ requests calls calls′ w w′. turns-once w ∙ sym (turns-once w′);
-      runs = λ t h requests answers calls w z. rw (turns-once w) (running t h requests answers z);
+      runs = λ t a requests answers calls w z. rw (turns-once w) (running t a requests answers z);
     }

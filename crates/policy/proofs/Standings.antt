@@ -1,4 +1,4 @@
--- A standing's level is the meet, and its counts are those of the rights used and the firms opened: a bounded search finds exactly the
+-- A standing's level is the stored one, and its counts are those of the rights used and the firms opened: a bounded search finds exactly the
 -- requests of the person, and on tables that a load gives every right and every firm is below 64.
 use Prim.Native.Nat.{ℕ, _<_}
 use native.Mathlib.Omega.{arith}
@@ -9,15 +9,17 @@ use lib.Dec.{eqb}
 use borrow.Author.Tests.{eqb-true, eq-eqb}
 use Rattle.bits.proofs.Booleans.{and-left, and-right, and-both}
 use Rattle.policy.specs.declared.Tables.{Tables}
-use Rattle.policy.specs.Tables.{folderAt}
+use Rattle.policy.specs.Tables.{folderAt, personDeclared}
 use Rattle.policy.specs.Rulebook.{given}
 use Rattle.policy.specs.Request.{Request, read, write, start, step, setOf}
 use Rattle.policy.specs.Rules.{declared, right, did, used, opened}
-use Rattle.policy.specs.Calls.{callChecks, standingNumber, standing}
+use Rattle.policy.specs.Levels.{levelAt}
+use Rattle.policy.specs.Calls.{State, callChecks, standingNumber, standing}
 use Rattle.policy.specs.Published.{requester, rightOf, InHistory, Accessed}
-use Rattle.policy.specs.Demands.{Standings, Levels}
+use Rattle.policy.specs.Demands.{Standings, Entries, Levels}
 use Rattle.policy.proofs.Ladders.{permit-first, permit-rest, ladder-zero}
 use Rattle.policy.proofs.Requests.{declared-place, declared-step}
+use Rattle.policy.proofs.Fronts.{is-person}
 use Rattle.policy.proofs.Accesses.{access-declared, some-request, request-some, did-in, in-did, opened-some, some-opened}
 use Rattle.policy.proofs.Published.{subject-is, right-is, level-is-meet}
 use Rattle.policy.proofs.PublishedNumbers.{standing-number}
@@ -67,21 +69,30 @@ module _ (t : Tables) (ok : given t ≡ true) where
       some-opened t H s f o a (sym is),
     )
 
-standing-given : (t : Tables) (h : List ℕ) (s : ℕ) → standingNumber t h s ≡ 0 → given t ≡ true
+standing-given : (t : Tables) (a : State) (s : ℕ) → standingNumber t a s ≡ 0 → given t ≡ true
 unfolding standingNumber callChecks
-standing-given t h s e = permit-first (permit-rest (ladder-zero _ refl e))
+standing-given t a s e = permit-first (permit-rest (permit-rest (ladder-zero _ refl e)))
+
+pub standing-person : (t : Tables) (a : State) (s : ℕ) → standingNumber t a s ≡ 0 → personDeclared t s ≡ true
+unfolding standingNumber callChecks
+standing-person t a s e = permit-first (permit-rest (permit-rest (permit-rest (ladder-zero _ refl e))))
 
 pub standings : Standings
-unfolding standing Used Opened
-standings t h s z =
-    let e : standingNumber t h s ≡ 0 = sym (standing-number t h s) ∙ z in
-    let ok = standing-given t h s e in
-    let H = setOf h in
+unfolding standing levelAt Used Opened
+standings t a s z =
+    let e : standingNumber t a s ≡ 0 = sym (standing-number t a s) ∙ z in
+    let ok = standing-given t a s e in
+    let H = setOf (a .history) in
     record {
-      level = rw e (level-is-meet t H s);
+      level = rw e;
+      current = λ held. rw e (held s (is-person t s .0 (standing-person t a s e)));
       rights = rw e (count-number 64 (used t H s) (Used t ok H s) (λ x w. used-request t ok H s x (w .1)) (request-used t ok H s));
       firms = rw e (count-number 64 (opened t H s) (Opened t ok H s) (λ f w. opened-folder t ok H s f (w .1)) (folder-opened t ok H s));
     }
+
+pub entries : Entries
+unfolding levelAt
+entries levels s = refl
 
 pub levels : Levels
 levels = level-is-meet

@@ -28,7 +28,7 @@ use Rattle.policy.specs.Agreement.{Done, stepsOn}
 use Rattle.policy.proofs.Requests.{member-none, member-head, member-tail, member-cases}
 use Rattle.policy.proofs.Published.{pipeline-published}
 use Rattle.policy.proofs.Circles.{way-join}
-use Rattle.policy.proofs.Granted.{Passed, grantedOver, granted-keeps}
+use Rattle.policy.proofs.Granted.{PassedOver, grantedOver, granted-keeps}
 
 -- ---- sorted lists
 
@@ -191,7 +191,7 @@ module _ (t : Tables) (on : inForce t pipelineRule ≡ true) where
   unfolding stepsOn Chain
   lined-none = record { known = λ r h. absurd (false-elim (member [] r) (member-none r) h); chain = λ o. tt }
 
-  chain-more : (g : List Request) (r : Request) → Lined t g → Passed t (member g) r → (o : ℕ) → Chain t (stepsOn o (r ∷ g))
+  chain-more : (g : List Request) (r : Request) → Lined t g → PassedOver t (member g) r → (o : ℕ) → Chain t (stepsOn o (r ∷ g))
   unfolding stepsOn
   chain-more g (read s f) l p o = l .chain o
   chain-more g (write s f) l p o = l .chain o
@@ -205,7 +205,7 @@ module _ (t : Tables) (on : inForce t pipelineRule ≡ true) where
           (pipeline-published t (member g) (step s q f) .0 (implies-elim _ _ (p .piped) on)))
       go false e = l .chain o
 
-  lined-more : (g : List Request) (r : Request) → Lined t g → Passed t (member g) r → Lined t (r ∷ g)
+  lined-more : (g : List Request) (r : Request) → Lined t g → PassedOver t (member g) r → Lined t (r ∷ g)
   lined-more g r l p =
       record {
         known = λ q m. ⊎-elim (λ e. rw e (p .parties)) (λ h. l .known q h) (member-cases r q g m);

@@ -12,34 +12,40 @@ use lib.ListN.{length}
 use borrow.Author.Tests.{eqb-true, eqb-false, eq-eqb, le-leb}
 use Rattle.bits.specs.Bounded.{_implies_}
 use Rattle.bits.proofs.Booleans.{and-left, and-right, implies-elim, false-elim, decide}
-use Rattle.level.specs.Levels.{atMost}
+use Rattle.level.specs.Levels.{atMost, meetOf}
 use Rattle.policy.specs.declared.Tables.{Tables}
 use Rattle.policy.specs.Checks.{ladder}
 use Rattle.policy.specs.Tables.{personAt, folderAt, personDeclared, folderDeclared, inForce, lowWaterRule}
 use Rattle.policy.specs.Rulebook.{given}
 use Rattle.policy.specs.History.{historyBytes, zeros}
 use Rattle.policy.specs.Request.{Request, read, write, start, step, requestOf, setOf}
+use Rattle.policy.specs.Levels.{levelsBytes, levelAt}
 use Rattle.policy.specs.Rules.{declared, wall, currentLevel, mayModify, lowWater}
 use Rattle.policy.specs.Calls.{
+  State,
   blankNumber,
-  blankHistory,
+  blankState,
   callChecks,
   judgeNumber,
   recordedIf,
-  putHistory,
+  putState,
   standingNumber,
   standing,
 }
-use Rattle.policy.specs.Published.{LowWaterInForce, Observed}
+use Rattle.policy.specs.Published.{LowWaterInForce, Observes, Observed}
 use Rattle.policy.specs.Causes.{recordBytes, PartiesDeclared}
-use Rattle.policy.specs.StepsAlter.{NotAtFront, LoweredBy, StepsAlter}
-use Rattle.policy.proofs.Requests.{declared-person}
+use Rattle.policy.specs.StepsAlter.{NotAtFront, LoweredBy, givenLevel, StepsAlter}
+use Rattle.policy.proofs.Ladders.{permit-none, permit-more, permit-first, permit-rest, ladder-zero, zero-ladder}
+use Rattle.policy.proofs.Requests.{person-below, declared-person}
 use Rattle.policy.proofs.Places.{size-recorded, set-zeros}
 use Rattle.policy.proofs.Fronts.{front-request, request-front, parties-declared}
 use Rattle.policy.proofs.PublishedNumbers.{standing-number}
+use Rattle.policy.proofs.Standings.{standing-person}
 use Rattle.policy.proofs.Refusals.{put-refused}
-use Rattle.policy.proofs.Histories.{added}
-use Rattle.policy.proofs.WallNumber.{walled}
+use Rattle.policy.proofs.LevelBytes.{size-lowered, lowered-own, level-other as entry-other}
+use Rattle.policy.proofs.Histories.{put-state, added}
+use Rattle.policy.proofs.Blanks.{blanked, first-declared}
+use Rattle.policy.proofs.WallNumber.{sizeRight, heldRight, walled}
 use Rattle.policy.proofs.LevelNumber.{
   levelled,
   afterLevel,
@@ -47,10 +53,11 @@ use Rattle.policy.proofs.LevelNumber.{
   level-other,
   judged-level,
   same-fifteen,
+  Before,
   fifteen,
   zero,
 }
-use Rattle.policy.proofs.Lowering.{Observes, level-stays, level-met, level-first, observed-more}
+use Rattle.policy.proofs.Lowering.{level-stays, level-first, level-own, level-others}
 
 -- ---- a step is judged as a write
 
@@ -60,63 +67,63 @@ unfolding declared
 step-parties t s p o l =
     ap (λ (b : Bool). personDeclared t s && b && folderDeclared t o) (le-leb p 15 l) ∙ rw (and-true (personDeclared t s))
 
-step-as-write : (t : Tables) (h bytes bytes′ : List ℕ) (s p o : ℕ) → p ≤ 15 → requestOf bytes ≡ some (step s p o)
-    → requestOf bytes′ ≡ some (write s o)
-    → (later later′ : ℕ)
-    × (later ≢ 15) × (later′ ≢ 15)
-    × (judgeNumber t h bytes
-    ≡ levelNumber (eqb (length h) historyBytes) (given t) (declared t (write s o)) (walled t (setOf h) (write s o))
-    (levelled t (setOf h) (write s o)) later)
-    × (judgeNumber t h bytes′
-    ≡ levelNumber (eqb (length h) historyBytes) (given t) (declared t (write s o)) (walled t (setOf h) (write s o))
-    (levelled t (setOf h) (write s o)) later′)
-unfolding walled wall levelled lowWater
-step-as-write t h bytes bytes′ s p o l is is′ = (
-  afterLevel t (setOf h) (step s p o),
-  afterLevel t (setOf h) (write s o),
-  level-other t (setOf h) (step s p o),
-  level-other t (setOf h) (write s o),
-  judged-level t h bytes (step s p o) is ∙ rw (step-parties t s p o l),
-  judged-level t h bytes′ (write s o) is′,
-)
+-- the numbers of both up to what comes after low-water
+unfoldable writeNumber : Tables → State → ℕ → ℕ → ℕ → ℕ
+writeNumber t a s o later =
+    levelNumber (sizeRight a) (heldRight a) (given t) (declared t (write s o)) (walled t (setOf (a .history)) (write s o))
+    (levelled t (levelAt (a .levels)) (write s o)) later
 
-as-write : (t : Tables) (h bytes bytes′ : List ℕ) (s p o : ℕ) → p ≤ 15 → requestOf bytes ≡ some (step s p o)
-    → requestOf bytes′ ≡ some (write s o) → (judgeNumber t h bytes ≡ 15) ↔ (judgeNumber t h bytes′ ≡ 15)
-as-write t h bytes bytes′ s p o l is is′ =
-    let (m, m′, n, n′, one, other) = step-as-write t h bytes bytes′ s p o l is is′ in (
-      λ e. other ∙ same-fifteen _ _ _ _ _ m m′ n (sym one ∙ e),
-      λ e. one ∙ same-fifteen _ _ _ _ _ m′ m n′ (sym other ∙ e),
+step-number : (t : Tables) (a : State) (bytes : List ℕ) (s p o : ℕ) → p ≤ 15 → requestOf bytes ≡ some (step s p o)
+    → judgeNumber t a bytes ≡ writeNumber t a s o (afterLevel t (setOf (a .history)) (step s p o))
+unfolding writeNumber walled wall levelled lowWater
+step-number t a bytes s p o l is = judged-level t a bytes (step s p o) is ∙ rw (step-parties t s p o l)
+
+write-number : (t : Tables) (a : State) (bytes : List ℕ) (s o : ℕ) → requestOf bytes ≡ some (write s o)
+    → judgeNumber t a bytes ≡ writeNumber t a s o (afterLevel t (setOf (a .history)) (write s o))
+unfolding writeNumber
+write-number t a bytes s o is = judged-level t a bytes (write s o) is
+
+as-write : (t : Tables) (a : State) (bytes bytes′ : List ℕ) (s p o : ℕ) → p ≤ 15 → requestOf bytes ≡ some (step s p o)
+    → requestOf bytes′ ≡ some (write s o) → (judgeNumber t a bytes ≡ 15) ↔ (judgeNumber t a bytes′ ≡ 15)
+unfolding writeNumber
+as-write t a bytes bytes′ s p o l is is′ =
+    let one = step-number t a bytes s p o l is in
+    let other = write-number t a bytes′ s o is′ in
+    let H = setOf (a .history) in (
+      λ e. other ∙ same-fifteen _ _ _ _ _ _ _ _ (level-other t H (step s p o)) (sym one ∙ e),
+      λ e. one ∙ same-fifteen _ _ _ _ _ _ _ _ (level-other t H (write s o)) (sym other ∙ e),
     )
 
 -- ---- the level of standing
 
-standing-zero : (t : Tables) (h : List ℕ) (s : ℕ) → eqb (length h) historyBytes ≡ true → given t ≡ true → personDeclared t s ≡ true
-    → standingNumber t h s ≡ 0
+standing-zero : (t : Tables) (a : State) (s : ℕ) {d : Bool} → Before (sizeRight a) (heldRight a) (given t) d → personDeclared t s ≡ true
+    → standingNumber t a s ≡ 0
 unfolding standingNumber callChecks ladder
-standing-zero t h s a b d = rw (a, b, d)
+standing-zero t a s w d = rw (w .size, w .held, w .known, d)
 
-standing-level : (t : Tables) (h : List ℕ) (s : ℕ) → standingNumber t h s ≡ 0 → standing t h s .level .0 ≡ currentLevel t (setOf h) s
+standing-level : (t : Tables) (a : State) (s : ℕ) → standingNumber t a s ≡ 0 → standing t a s .level .0 ≡ levelAt (a .levels) s
 unfolding standing
-standing-level t h s e = rw e
+standing-level t a s e = rw e
 
 -- a rule that refuses does not permit
 implies-false : (a b : Bool) → (a implies b) ≡ false → b ≡ false
 implies-false true b e = e
 implies-false false b e = absurd (false≢true (sym e))
 
-module _ (t : Tables) (h bytes : List ℕ) (s p o : ℕ) (is : requestOf bytes ≡ some (step s p o)) where
-  granted-level : LowWaterInForce t → judgeNumber t h bytes ≡ 0
-      → atMost 12 (folderAt t o .level .0) (standing t h s .level .0) ≡ true
+module _ (t : Tables) (a : State) (bytes : List ℕ) (s p o : ℕ) (is : requestOf bytes ≡ some (step s p o)) where
+  granted-level : LowWaterInForce t → judgeNumber t a bytes ≡ 0
+      → atMost 12 (folderAt t o .level .0) (standing t a s .level .0) ≡ true
   unfolding levelled lowWater mayModify inForce
   granted-level on e =
-      let (a, b, d, l) = zero _ _ _ _ _ _ (sym (judged-level t h bytes (step s p o) is) ∙ e) in
-      rw (standing-level t h s (standing-zero t h s a b (declared-person t s p o d))) (implies-elim _ _ l on)
+      let (w, l) = zero _ _ _ _ _ _ _ (sym (judged-level t a bytes (step s p o) is) ∙ e) in
+      rw (standing-level t a s (standing-zero t a s w (declared-person t s p o (w .parties)))) (implies-elim _ _ l on)
 
-  refused-level : judgeNumber t h bytes ≡ 15 → atMost 12 (folderAt t o .level .0) (standing t h s .level .0) ≡ false
+  refused-level : judgeNumber t a bytes ≡ 15 → atMost 12 (folderAt t o .level .0) (standing t a s .level .0) ≡ false
   unfolding levelled lowWater mayModify
   refused-level e =
-      let (a, b, d, l) = fifteen _ _ _ _ _ _ (level-other t (setOf h) (step s p o)) (sym (judged-level t h bytes (step s p o) is) ∙ e) in
-      rw (standing-level t h s (standing-zero t h s a b (declared-person t s p o d)))
+      let (w, l) = fifteen _ _ _ _ _ _ _ (level-other t (setOf (a .history)) (step s p o))
+      (sym (judged-level t a bytes (step s p o) is) ∙ e) in
+      rw (standing-level t a s (standing-zero t a s w (declared-person t s p o (w .parties))))
       (implies-false (inForce t lowWaterRule) _ l)
 
 -- a start is judged by the levels of both persons
@@ -124,22 +131,23 @@ start-persons : (t : Tables) (s u : ℕ) → declared t (start s u) ≡ true →
 unfolding declared
 start-persons t s u d = (and-left (personDeclared t s) _ d, and-right (personDeclared t s) _ d)
 
-module _ (t : Tables) (h bytes : List ℕ) (s u : ℕ) (is : requestOf bytes ≡ some (start s u)) where
-  start-granted : LowWaterInForce t → judgeNumber t h bytes ≡ 0
-      → atMost 12 (standing t h u .level .0) (standing t h s .level .0) ≡ true
+module _ (t : Tables) (a : State) (bytes : List ℕ) (s u : ℕ) (is : requestOf bytes ≡ some (start s u)) where
+  start-granted : LowWaterInForce t → judgeNumber t a bytes ≡ 0
+      → atMost 12 (standing t a u .level .0) (standing t a s .level .0) ≡ true
   unfolding levelled lowWater inForce
   start-granted on e =
-      let (a, b, d, l) = zero _ _ _ _ _ _ (sym (judged-level t h bytes (start s u) is) ∙ e) in
-      let (ds, du) = start-persons t s u d in
-      rw (standing-level t h s (standing-zero t h s a b ds), standing-level t h u (standing-zero t h u a b du))
+      let (w, l) = zero _ _ _ _ _ _ _ (sym (judged-level t a bytes (start s u) is) ∙ e) in
+      let (ds, du) = start-persons t s u (w .parties) in
+      rw (standing-level t a s (standing-zero t a s w ds), standing-level t a u (standing-zero t a u w du))
       (implies-elim _ _ l on)
 
-  start-refused : judgeNumber t h bytes ≡ 15 → atMost 12 (standing t h u .level .0) (standing t h s .level .0) ≡ false
+  start-refused : judgeNumber t a bytes ≡ 15 → atMost 12 (standing t a u .level .0) (standing t a s .level .0) ≡ false
   unfolding levelled lowWater
   start-refused e =
-      let (a, b, d, l) = fifteen _ _ _ _ _ _ (level-other t (setOf h) (start s u)) (sym (judged-level t h bytes (start s u) is) ∙ e) in
-      let (ds, du) = start-persons t s u d in
-      rw (standing-level t h s (standing-zero t h s a b ds), standing-level t h u (standing-zero t h u a b du))
+      let (w, l) = fifteen _ _ _ _ _ _ _ (level-other t (setOf (a .history)) (start s u))
+      (sym (judged-level t a bytes (start s u) is) ∙ e) in
+      let (ds, du) = start-persons t s u (w .parties) in
+      rw (standing-level t a s (standing-zero t a s w ds), standing-level t a u (standing-zero t a u w du))
       (implies-false (inForce t lowWaterRule) _ l)
 
 read-person : (t : Tables) (s o : ℕ) → declared t (read s o) ≡ true → personDeclared t s ≡ true
@@ -148,67 +156,44 @@ read-person t s o d = and-left (personDeclared t s) _ d
 
 -- ---- a granted put
 
--- what a granted put finds, and leaves
-record Put (t : Tables) (h bytes : List ℕ) (r : Request) : Type 0 where
-  size : length h ≡ historyBytes
-  known : given t ≡ true
-  parties : declared t r ≡ true
-  length-after : length (putHistory t h bytes) ≡ length h
-  adds : (q : Request) → (setOf (putHistory t h bytes) q ≡ true) ↔ ((q ≡ r) ⊎ (setOf h q ≡ true))
+granted-before : (t : Tables) (a : State) (bytes : List ℕ) (r : Request) → requestOf bytes ≡ some r → judgeNumber t a bytes ≡ 0
+    → Before (sizeRight a) (heldRight a) (given t) (declared t r)
+granted-before t a bytes r is e = zero _ _ _ _ _ _ _ (sym (judged-level t a bytes r is) ∙ e) .0
 
-put-leaves : (t : Tables) (h bytes : List ℕ) (r : Request) → requestOf bytes ≡ some r → judgeNumber t h bytes ≡ 0 → Put t h bytes r
-unfolding putHistory recordedIf
-put-leaves t h bytes r is e =
-    let (a, b, d, l) = zero _ _ _ _ _ _ (sym (judged-level t h bytes r is) ∙ e) in
-    let size = eqb-true (length h) historyBytes a in
-    record {
-      size = size;
-      known = b;
-      parties = d;
-      length-after = rw (e, is) (size-recorded h r);
-      adds = added t h bytes r size is d e;
-    }
-
--- standing has the same number before and after
-same-number : (t : Tables) (h h′ : List ℕ) (s : ℕ) → length h′ ≡ length h → standingNumber t h′ s ≡ standingNumber t h s
+-- standing has the same number for buffers of the same lengths
+same-number : (t : Tables) (a b : State) (s : ℕ) → length (b .history) ≡ length (a .history) → length (b .levels) ≡ length (a .levels)
+    → standingNumber t b s ≡ standingNumber t a s
 unfolding standingNumber callChecks
-same-number t h h′ s e = rw e
+same-number t a b s size held = rw (size, held)
 
 -- and a level by that number
-level-by : (t : Tables) (h : List ℕ) (s : ℕ)
-    → standing t h s .level .0 ≡ cond (eqb (standingNumber t h s) 0) (currentLevel t (setOf h) s) 0
+level-by : (t : Tables) (a : State) (s : ℕ)
+    → standing t a s .level .0 ≡ cond (eqb (standingNumber t a s) 0) (levelAt (a .levels) s) 0
 unfolding standing
-level-by t h s = ⊎-elim (λ e. rw e) (λ e. rw e) (decide (eqb (standingNumber t h s) 0))
+level-by t a s = ⊎-elim (λ e. rw e) (λ e. rw e) (decide (eqb (standingNumber t a s) 0))
 
-same-level : (t : Tables) (h h′ : List ℕ) (s : ℕ) → length h′ ≡ length h → currentLevel t (setOf h′) s ≡ currentLevel t (setOf h) s
-    → standing t h′ s .level .0 ≡ standing t h s .level .0
-same-level t h h′ s size level =
-    level-by t h′ s ∙ ap₂ (λ (n l : ℕ). cond (eqb n 0) l 0) (same-number t h h′ s size) level ∙ sym (level-by t h s)
+module _ (t : Tables) (a : State) (bytes : List ℕ) (r : Request) (is : requestOf bytes ≡ some r) (e : judgeNumber t a bytes ≡ 0) (s : ℕ) where
+  number-after : standingNumber t (putState t a bytes) s ≡ standingNumber t a s
+  number-after =
+      rw (put-state t a bytes r is e)
+      (same-number t a _ s (size-recorded (a .history) r) (size-lowered t (a .levels) r))
 
-module _ (t : Tables) (h bytes : List ℕ) (r : Request) (is : requestOf bytes ≡ some r) (e : judgeNumber t h bytes ≡ 0) (s : ℕ) where
   -- the person's own request on folder o
-  lowered : personDeclared t s ≡ true → (o : ℕ) → ((i : ℕ) → (Observes r s i) ↔ (o ≡ i)) → LoweredBy t h (putHistory t h bytes) s o
-  lowered person o own =
-      let put = put-leaves t h bytes r is e in
-      let zero-before = standing-zero t h s (eq-eqb (length h) historyBytes (put .size)) (put .known) person in
-      let zero-after = same-number t h (putHistory t h bytes) s (put .length-after) ∙ zero-before in
-      let met = level-met t (setOf h) (setOf (putHistory t h bytes)) s o (λ i.
-      let more = observed-more t (setOf h) (setOf (putHistory t h bytes)) r (put .parties) (put .adds) s i in (
-        λ w. ⊎-elim (λ v. inl (own i .0 v)) (λ v. inr v) (more .0 w),
-        λ w. more .1 (⊎-elim (λ v. inl (own i .1 v)) (λ v. inr v) w),
-      )) in
-      rw (standing-level t h s zero-before, standing-level t (putHistory t h bytes) s zero-after) met
+  lowered-by : personDeclared t s ≡ true → (o : ℕ) → Observes r s o → LoweredBy t a (putState t a bytes) s o
+  lowered-by person o own =
+      let before = granted-before t a bytes r is e in
+      let zero-before = standing-zero t a s before person in
+      let held = eqb-true (length (a .levels)) levelsBytes (before .held) in
+      rw (standing-level t a s zero-before, standing-level t (putState t a bytes) s (number-after ∙ zero-before), put-state t a bytes r is e)
+      (lowered-own t (a .levels) r s o held (person-below t s person) own)
 
   -- a request that is no read and no step of the person
-  unchanged : ((i : ℕ) → Observes r s i → ⊥) → standing t (putHistory t h bytes) s .level .0 ≡ standing t h s .level .0
+  unchanged : ((i : ℕ) → Observes r s i → ⊥) → standing t (putState t a bytes) s .level .0 ≡ standing t a s .level .0
   unchanged other =
-      let put = put-leaves t h bytes r is e in
-      same-level t h (putHistory t h bytes) s (put .length-after)
-      (level-stays t (setOf h) (setOf (putHistory t h bytes)) s (λ i.
-      let more = observed-more t (setOf h) (setOf (putHistory t h bytes)) r (put .parties) (put .adds) s i in (
-        λ w. ⊎-elim (λ v. absurd (other i v)) (λ v. v) (more .0 w),
-        λ w. more .1 (inr w),
-      )))
+      level-by t (putState t a bytes) s
+      ∙ ap₂ (λ (n l : ℕ). cond (eqb n 0) l 0) number-after
+      (ap (λ (x : State). levelAt (x .levels) s) (put-state t a bytes r is e) ∙ entry-other t (a .levels) r s other)
+      ∙ sym (level-by t a s)
 
 -- a record that does not stand at the front of the bytes is not the one that was put
 not-own : (bytes : List ℕ) (r : Request) (s : ℕ) → requestOf bytes ≡ some r → ((o : ℕ) → NotAtFront (read s o) bytes)
@@ -222,31 +207,79 @@ not-own bytes (step s′ p o) s is reads steps i w =
     let (rest, front) = request-front bytes (step s′ p o) is in
     steps p o rest (front ∙ ap (λ (x : ℕ). recordBytes (step x p o) ++ rest) (w .0))
 
-put-none : (t : Tables) (h bytes : List ℕ) → requestOf bytes ≡ none → putHistory t h bytes ≡ h
-unfolding putHistory recordedIf
-put-none t h bytes is = rw is (go (eqb (judgeNumber t h bytes) 0))
+put-none : (t : Tables) (a : State) (bytes : List ℕ) → requestOf bytes ≡ none → putState t a bytes ≡ a
+unfolding putState recordedIf
+put-none t a bytes is = rw is (go (eqb (judgeNumber t a bytes) 0))
   where
-    go : (b : Bool) → recordedIf b h none ≡ h
+    go : (b : Bool) → recordedIf t b a none ≡ a
     go true = refl
     go false = refl
 
-others-stay : (t : Tables) (h bytes : List ℕ) (s : ℕ) → ((o : ℕ) → NotAtFront (read s o) bytes)
-    → ((p o : ℕ) → NotAtFront (step s p o) bytes) → standing t (putHistory t h bytes) s .level .0 ≡ standing t h s .level .0
-others-stay t h bytes s reads steps = go (requestOf bytes) refl
+-- what holds of the state before, and of the one after a granted put, holds of the state after any put
+put-cases : (t : Tables) (a : State) (bytes : List ℕ) (P : State → Type 0) → P a
+    → ((r : Request) → requestOf bytes ≡ some r → judgeNumber t a bytes ≡ 0 → P (putState t a bytes)) → P (putState t a bytes)
+put-cases t a bytes P before after = go (requestOf bytes) refl
   where
-    go : (q : Option Request) → requestOf bytes ≡ q → standing t (putHistory t h bytes) s .level .0 ≡ standing t h s .level .0
-    go none is = rw (put-none t h bytes is)
+    go : (q : Option Request) → requestOf bytes ≡ q → P (putState t a bytes)
+    go none is = rw (put-none t a bytes is) before
     go (some r) is =
-        ⊎-elim
-        (λ e. unchanged t h bytes r is (eqb-true _ 0 e) s (not-own bytes r s is reads steps))
-        (λ n. rw (put-refused t h bytes (eqb-false (judgeNumber t h bytes) 0 n)))
-        (decide (eqb (judgeNumber t h bytes) 0))
+        ⊎-elim (λ e. after r is (eqb-true _ 0 e)) (λ n. rw (put-refused t a bytes (eqb-false (judgeNumber t a bytes) 0 n)) before)
+        (decide (eqb (judgeNumber t a bytes) 0))
+
+others-stay : (t : Tables) (a : State) (bytes : List ℕ) (s : ℕ) → ((o : ℕ) → NotAtFront (read s o) bytes)
+    → ((p o : ℕ) → NotAtFront (step s p o) bytes) → standing t (putState t a bytes) s .level .0 ≡ standing t a s .level .0
+others-stay t a bytes s reads steps =
+    put-cases t a bytes (λ b. standing t b s .level .0 ≡ standing t a s .level .0) refl
+    (λ r is e. unchanged t a bytes r is e s (not-own bytes r s is reads steps))
+
+-- ---- the level that a history gives
+
+-- a read or a step of one person is on one folder
+one-folder : (r : Request) (s o : ℕ) → Observes r s o → (i : ℕ) → (Observes r s i) ↔ (o ≡ i)
+one-folder (read s′ o′) s o w i = (λ v. sym (w .1) ∙ v .1, λ e. (w .0, w .1 ∙ e))
+one-folder (write s′ o′) s o w i = absurd w
+one-folder (start s′ u) s o w i = absurd w
+one-folder (step s′ p o′) s o w i = (λ v. sym (w .1) ∙ v .1, λ e. (w .0, w .1 ∙ e))
+
+module _ (t : Tables) (a : State) (bytes : List ℕ) (r : Request) (is : requestOf bytes ≡ some r) (e : judgeNumber t a bytes ≡ 0) where
+  adds : (q : Request) → (setOf (putState t a bytes .history) q ≡ true) ↔ ((q ≡ r) ⊎ (setOf (a .history) q ≡ true))
+  adds q =
+      let before = granted-before t a bytes r is e in
+      added t a bytes r (eqb-true (length (a .history)) historyBytes (before .size)) is (before .parties) e q
+
+  given-lowered : (s o : ℕ) → Observes r s o → givenLevel t (putState t a bytes) s ≡ meetOf 12 (givenLevel t a s) (folderAt t o .level .0)
+  given-lowered s o w =
+      level-own t (setOf (a .history)) (setOf (putState t a bytes .history)) r (granted-before t a bytes r is e .parties) adds s o
+      (one-folder r s o w)
+
+  given-unchanged : (s : ℕ) → ((i : ℕ) → Observes r s i → ⊥) → givenLevel t (putState t a bytes) s ≡ givenLevel t a s
+  given-unchanged s other =
+      level-others t (setOf (a .history)) (setOf (putState t a bytes .history)) r (granted-before t a bytes r is e .parties) adds s other
+
+given-stays : (t : Tables) (a : State) (bytes : List ℕ) (s : ℕ) → ((o : ℕ) → NotAtFront (read s o) bytes)
+    → ((p o : ℕ) → NotAtFront (step s p o) bytes) → givenLevel t (putState t a bytes) s ≡ givenLevel t a s
+given-stays t a bytes s reads steps =
+    put-cases t a bytes (λ b. givenLevel t b s ≡ givenLevel t a s) refl
+    (λ r is e. given-unchanged t a bytes r is e s (not-own bytes r s is reads steps))
+
+none-observed : (t : Tables) (s o : ℕ) → Observed t (setOf (zeros historyBytes)) s o → ⊥
+none-observed t s o w =
+    ⊎-elim (λ h. false-elim _ (set-zeros (read s o)) (h .1)) (λ v. let (p, h) = v in false-elim _ (set-zeros (step s p o)) (h .1)) w
+
+given-first : (t : Tables) (a : State) (s : ℕ) → blankNumber t a ≡ 0 → givenLevel t (blankState t a) s ≡ personAt t s .level .0
+given-first t a s e = rw (blanked t a e) (level-first t (setOf (zeros historyBytes)) s (none-observed t s))
 
 -- histories with the same requests of declared parties
-passed-over : (t : Tables) (h h′ : List ℕ) (s : ℕ) → length h ≡ length h′
-    → ((q : Request) → PartiesDeclared t q → setOf h q ≡ setOf h′ q) → standing t h s .level .0 ≡ standing t h′ s .level .0
-passed-over t h h′ s size same = same-level t h′ h s size (level-stays t (setOf h′) (setOf h) s (λ i. (there i, back i)))
+passed-over : (t : Tables) (a b : State) (s : ℕ)
+    → ((q : Request) → PartiesDeclared t q → setOf (a .history) q ≡ setOf (b .history) q) → givenLevel t a s ≡ givenLevel t b s
+passed-over t a b s same = level-stays t (setOf h′) (setOf h) s (λ i. (there i, back i))
   where
+    h : List ℕ
+    h = a .history
+
+    h′ : List ℕ
+    h′ = b .history
+
     at : (q : Request) → declared t q ≡ true → setOf h q ≡ setOf h′ q
     at q d = same q (parties-declared t q .0 d)
 
@@ -260,39 +293,51 @@ passed-over t h h′ s size same = same-level t h′ h s size (level-stays t (se
 
 -- ---- from blank
 
-none-observed : (t : Tables) (s o : ℕ) → Observed t (setOf (zeros historyBytes)) s o → ⊥
-none-observed t s o w =
-    ⊎-elim (λ h. false-elim _ (set-zeros (read s o)) (h .1)) (λ v. let (p, h) = v in false-elim _ (set-zeros (step s p o)) (h .1)) w
+-- where standing is not refused, the checks of every call pass
+calls-pass : (t : Tables) (a : State) (s : ℕ) → standingNumber t a s ≡ 0 → ladder (callChecks t a) ≡ 0
+unfolding standingNumber callChecks
+calls-pass t a s e =
+    let all = ladder-zero _ refl e in
+    zero-ladder _
+    (permit-more (permit-first all)
+    (permit-more (permit-first (permit-rest all)) (permit-more (permit-first (permit-rest (permit-rest all))) permit-none)))
 
-blank-level : (t : Tables) (h : List ℕ) (s : ℕ) → standing t (blankHistory h) s .number ≡ 0
-    → standing t (blankHistory h) s .level .0 ≡ personAt t s .level .0
-unfolding blankHistory blankNumber standingNumber callChecks ladder
-blank-level t h s e = go (eqb (length h) historyBytes) refl (sym (standing-number t (blankHistory h) s) ∙ e)
-  where
-    go : (b : Bool) → eqb (length h) historyBytes ≡ b → standingNumber t (blankHistory h) s ≡ 0
-        → standing t (blankHistory h) s .level .0 ≡ personAt t s .level .0
-    go true size zero =
-        standing-level t (blankHistory h) s zero ∙ rw size (level-first t (setOf (zeros historyBytes)) s (none-observed t s))
-    go false size zero = let ten : _≡_ {A = ℕ} 10 0 = rw (size, size) at zero in absurd (omega arith)
+blank-taken : (t : Tables) (a : State) (s : ℕ) → standingNumber t (blankState t a) s ≡ 0 → blankNumber t a ≡ 0
+unfolding blankState blankNumber
+blank-taken t a s e =
+    ⊎-elim (λ y. eqb-true (ladder (callChecks t a)) 0 y)
+    (λ n. let left : standingNumber t a s ≡ 0 = rw n at e in calls-pass t a s left)
+    (decide (eqb (ladder (callChecks t a)) 0))
+
+-- a blank that is refused leaves buffers or tables on which standing is refused
+blank-level : (t : Tables) (a : State) (s : ℕ) → standing t (blankState t a) s .number ≡ 0
+    → standing t (blankState t a) s .level .0 ≡ personAt t s .level .0
+blank-level t a s e =
+    let number = sym (standing-number t (blankState t a) s) ∙ e in
+    standing-level t (blankState t a) s number
+    ∙ first-declared t a (blank-taken t a s number) s (standing-person t (blankState t a) s number)
 
 pub steps-alter : StepsAlter
 steps-alter =
     record {
-      asWrite = λ t h bytes bytes′ rest rest′ s p o l f f′.
-          as-write t h bytes bytes′ s p o l (front-request (step s p o) rest f) (front-request (write s o) rest′ f′);
-      granted = λ t h bytes rest s p o f. granted-level t h bytes s p o (front-request (step s p o) rest f);
-      refused = λ t h bytes rest s p o f. refused-level t h bytes s p o (front-request (step s p o) rest f);
-      startGranted = λ t h bytes rest s u f. start-granted t h bytes s u (front-request (start s u) rest f);
-      startRefused = λ t h bytes rest s u f. start-refused t h bytes s u (front-request (start s u) rest f);
-      lowers = λ t h bytes rest s p o f e.
+      asWrite = λ t a bytes bytes′ rest rest′ s p o l f f′.
+          as-write t a bytes bytes′ s p o l (front-request (step s p o) rest f) (front-request (write s o) rest′ f′);
+      granted = λ t a bytes rest s p o f. granted-level t a bytes s p o (front-request (step s p o) rest f);
+      refused = λ t a bytes rest s p o f. refused-level t a bytes s p o (front-request (step s p o) rest f);
+      startGranted = λ t a bytes rest s u f. start-granted t a bytes s u (front-request (start s u) rest f);
+      startRefused = λ t a bytes rest s u f. start-refused t a bytes s u (front-request (start s u) rest f);
+      lowers = λ t a bytes rest s p o f e.
           let is = front-request (step s p o) rest f in
-          let person = declared-person t s p o (put-leaves t h bytes (step s p o) is e .parties) in
-          lowered t h bytes (step s p o) is e s person o (λ i. (λ w. w .1, λ q. (refl, q)));
-      asRead = λ t h bytes rest s o f e.
+          let person = declared-person t s p o (granted-before t a bytes (step s p o) is e .parties) in
+          lowered-by t a bytes (step s p o) is e s person o (refl, refl);
+      asRead = λ t a bytes rest s o f e.
           let is = front-request (read s o) rest f in
-          let person = read-person t s o (put-leaves t h bytes (read s o) is e .parties) in
-          lowered t h bytes (read s o) is e s person o (λ i. (λ w. w .1, λ q. (refl, q)));
+          let person = read-person t s o (granted-before t a bytes (read s o) is e .parties) in
+          lowered-by t a bytes (read s o) is e s person o (refl, refl);
       leaves = others-stay;
       first = blank-level;
+      given = λ t a bytes rest r s o f w e. given-lowered t a bytes r (front-request r rest f) e s o w;
+      givenLeaves = given-stays;
+      givenFirst = given-first;
       passedOver = passed-over;
     }

@@ -1,4 +1,5 @@
--- The agreement, as one claim about whole lists of put calls, for a rulebook that loads. Each call may have any bytes.
+-- The agreement, as one claim about whole lists of put calls, for a rulebook that loads. Each call may have any bytes, and each gets the
+-- history and the levels as the call before left them.
 -- Its sentences are document 01's third demand; what they speak of is defined first.
 use Prim.Native.Nat.{ℕ}
 use mathlib.Core.Path.{_≡_}
@@ -6,13 +7,14 @@ use mathlib.Core.Logic.{_↔_}
 use mathlib.Core.Bool.{true, false, cond}
 use mathlib.Core.List.{List, [], _∷_, List·Memᴰ, Perm}
 use lib.Dec.{eqb}
-use lib.ListN.{getD}
+use lib.ListN.{length, getD}
 use Rattle.bits.specs.Bits.{bit}
 use Rattle.policy.specs.declared.Tables.{Tables}
 use Rattle.policy.specs.Tables.{noFirm, noPerson, noFolder, noRole, inForce, lowWaterRule, pipelineRule}
 use Rattle.policy.specs.Rulebook.{Record, rules, firm, person, folder, role, pair, public, loadBook, recordsOf}
 use Rattle.policy.specs.Request.{Request, read, write, start, step, requestOf}
-use Rattle.policy.specs.Calls.{blankNumber, blankHistory, addedIf, judgeList, putNumbers, putHistories}
+use Rattle.policy.specs.Calls.{State, blankNumber, blankState, addedIf, judgeList, putNumbers, putStates}
+use Rattle.policy.specs.Held.{HoldsCurrent, HoldsZero}
 
 -- the tables hold what the records declare, all of it and nothing else: what no record declares is zero and marked undeclared; a folder is
 -- marked public exactly where a record says so, and the rest of its entry is as its own record declares it
@@ -46,9 +48,9 @@ pub record Holds (t : Tables) (records : List Record) : Type 0 where
       → getD (t .roles) k noRole ≡ record { declared = false; rights = 0 }
   pub pairs : (p q : ℕ) → (List·Memᴰ (pair p q) records) ↔ (bit (getD (t .steps) p 0) q ≡ true)
 
--- from blank: right after a blank that answered 0
-abbrev pub FromBlank : List ℕ → Type 0
-FromBlank h = (before : List ℕ) × (blankNumber before ≡ 0) × (h ≡ blankHistory before)
+-- from blank: right after a blanking of both buffers with these tables that answered 0
+abbrev pub FromBlank : Tables → State → Type 0
+FromBlank t a = (before : State) × (blankNumber t before ≡ 0) × (a ≡ blankState t before)
 
 -- the requests, kind and fields, of the calls answered 0, in the order of the calls
 unfoldable pub answeredZero : List (List ℕ) → List ℕ → List Request
@@ -56,8 +58,8 @@ answeredZero [] numbers = []
 answeredZero (bytes ∷ calls) [] = []
 answeredZero (bytes ∷ calls) (n ∷ numbers) = addedIf (eqb n 0) (requestOf bytes) (answeredZero calls numbers)
 
-unfoldable pub granted : Tables → List ℕ → List (List ℕ) → List Request
-granted t h calls = answeredZero calls (putNumbers t h calls)
+unfoldable pub granted : Tables → State → List (List ℕ) → List Request
+granted t a calls = answeredZero calls (putNumbers t a calls)
 
 -- the same set was granted: without order or repeats
 abbrev pub SameSet : List Request → List Request → Type 0
@@ -76,32 +78,38 @@ stepsOn o (start s u ∷ g) = stepsOn o g
 stepsOn o (step s p f ∷ g) = cond (eqb f o) (record { person = s; number = p } ∷ stepsOn o g) (stepsOn o g)
 
 -- granted throughout: every call answers 0
-abbrev pub Throughout : Tables → List ℕ → List (List ℕ) → Type 0
-Throughout t h calls = (n : ℕ) → List·Memᴰ n (putNumbers t h calls) → n ≡ 0
+abbrev pub Throughout : Tables → State → List (List ℕ) → Type 0
+Throughout t a calls = (n : ℕ) → List·Memᴰ n (putNumbers t a calls) → n ≡ 0
 
 -- the agreement on tables and the records of their book, for any two lists from blank
-pub record Agreement (t : Tables) (records : List Record) (h h′ : List ℕ) (xs ys : List (List ℕ)) : Type 0 where
+pub record Agreement (t : Tables) (records : List Record) (a b : State) (xs ys : List (List ℕ)) : Type 0 where
   -- tables hold what the records declare
   pub tables : Holds t records
-  -- numbers are those of the definitions over the set granted so far
-  pub numbers : putNumbers t h xs ≡ judgeList t [] xs
+  -- numbers are those of the definitions over the set granted so far, with no stored level in them
+  pub numbers : putNumbers t a xs ≡ judgeList t [] xs
   -- histories are equal byte for byte exactly where the granted sets are
-  pub histories : (putHistories t h xs ≡ putHistories t h′ ys) ↔ SameSet (granted t h xs) (granted t h′ ys)
-  -- the same set has the same future: the same numbers place by place, and equal histories
+  pub histories : (putStates t a xs .history ≡ putStates t b ys .history) ↔ SameSet (granted t a xs) (granted t b ys)
+  -- and then the levels are equal byte for byte too
+  pub levels : SameSet (granted t a xs) (granted t b ys) → putStates t a xs .levels ≡ putStates t b ys .levels
+  -- the levels are 128 bytes, and each of the 64 entries is the level that the history gives, zero for the undeclared
+  pub size : length (putStates t a xs .levels) ≡ 128
+  pub held : HoldsCurrent t (putStates t a xs)
+  pub others : HoldsZero t (putStates t a xs)
+  -- the same set has the same future: the same numbers place by place, and equal histories and levels
   pub future :
-      SameSet (granted t h xs) (granted t h′ ys) → (zs : List (List ℕ))
-      → (putNumbers t (putHistories t h xs) zs ≡ putNumbers t (putHistories t h′ ys) zs)
-      × (putHistories t (putHistories t h xs) zs ≡ putHistories t (putHistories t h′ ys) zs)
+      SameSet (granted t a xs) (granted t b ys) → (zs : List (List ℕ))
+      → (putNumbers t (putStates t a xs) zs ≡ putNumbers t (putStates t b ys) zs)
+      × (putStates t (putStates t a xs) zs ≡ putStates t (putStates t b ys) zs)
   -- under the pipeline the granted steps on a folder came in the same order
   pub steps :
-      inForce t pipelineRule ≡ true → SameSet (granted t h xs) (granted t h′ ys)
-      → (o : ℕ) → stepsOn o (granted t h xs) ≡ stepsOn o (granted t h′ ys)
+      inForce t pipelineRule ≡ true → SameSet (granted t a xs) (granted t b ys)
+      → (o : ℕ) → stepsOn o (granted t a xs) ≡ stepsOn o (granted t b ys)
   -- without low-water and pipeline every reordering of a granted list is granted
-  pub orders : inForce t lowWaterRule ≡ false → inForce t pipelineRule ≡ false → Perm xs ys → Throughout t h xs → Throughout t h′ ys
+  pub orders : inForce t lowWaterRule ≡ false → inForce t pipelineRule ≡ false → Perm xs ys → Throughout t a xs → Throughout t b ys
 
 -- the claim: every rulebook that loads, every two lists from blank
 abbrev pub Claim : Type 0
 Claim =
     (book : List ℕ) → loadBook book .number ≡ 0
-    → (h h′ : List ℕ) → FromBlank h → FromBlank h′
-    → (xs ys : List (List ℕ)) → Agreement (loadBook book .tables) (recordsOf book) h h′ xs ys
+    → (a b : State) → FromBlank (loadBook book .tables) a → FromBlank (loadBook book .tables) b
+    → (xs ys : List (List ℕ)) → Agreement (loadBook book .tables) (recordsOf book) a b xs ys

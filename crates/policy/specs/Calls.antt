@@ -1,4 +1,4 @@
--- The calls (document 01, "Requests and calls"): everything that each returns, and every lent byte afterwards.
+-- The calls (document 01, "Requests and calls", and document 02, Point 4): everything that each returns, and every lent byte afterwards.
 use Prim.Native.Nat.{ℕ, zero, suc, _+_}
 use mathlib.Core.Bool.{Bool, true, false, cond}
 use mathlib.Core.List.{List, [], _∷_, _++_}
@@ -14,33 +14,54 @@ use Rattle.policy.specs.Tables.{personDeclared, inForce, wallRule, lowWa
 use Rattle.policy.specs.Rulebook.{loadBook, given}
 use Rattle.policy.specs.History.{historyBytes, zeros}
 use Rattle.policy.specs.Request.{Request, requestOf, recordLength, setOf, recorded, member}
+use Rattle.policy.specs.Levels.{levelsBytes, levelAt, firstLevels, lowered}
 use Rattle.policy.specs.Rules.{declared, wall, lowWater, currentLevel, roles, pipeline, used, opened}
 
--- blank: 0 or 10, and the history afterwards
-unfoldable pub blankNumber : List ℕ → ℕ
-blankNumber h = ladder ((eqb (length h) historyBytes else 10) ∷ [])
+-- what is lent to a call and passed on to the next one, as one state: the history, and each person's level held ready
+pub record State : Type 0 where
+  pub history : List ℕ
+  pub levels : List ℕ
 
-unfoldable pub blankHistory : List ℕ → List ℕ
-blankHistory h = cond (eqb (blankNumber h) 0) (zeros historyBytes) h
+abbrev pub state : List ℕ → List ℕ → State
+state h l = record { history = h; levels = l }
+
+-- the checks of every call that takes tables and a state
+unfoldable pub callChecks : Tables → State → List Check
+callChecks t a =
+    (eqb (length (a .history)) historyBytes else 10)
+    ∷ (eqb (length (a .levels)) levelsBytes else 20)
+    ∷ (given t else 11)
+    ∷ []
+
+-- blank: its number, and the state afterwards
+unfoldable pub blankNumber : Tables → State → ℕ
+blankNumber t a = ladder (callChecks t a)
+
+unfoldable pub blankState : Tables → State → State
+blankState t a = cond (eqb (blankNumber t a) 0) (state (zeros historyBytes) (firstLevels t (a .levels))) a
 
 -- load is `loadBook`; beside it, rest: the bytes after the end record, none for a refused book
 unfoldable pub restOf : List ℕ → List ℕ
 restOf book = cond (eqb (loadBook book .number) 0) (drop (loadBook book .offset + 1) book) []
 
--- the checks of the request at the front of the bytes, over the set of requests granted so far
-unfoldable pub requestChecks : Tables → (Request → Bool) → Option Request → List Check
-requestChecks t H none = (false else 12) ∷ []
-requestChecks t H (some r) =
+-- the checks of the request at the front of the bytes, over the set of requests granted so far and a level for each person
+unfoldable pub requestChecks : Tables → (Request → Bool) → (ℕ → ℕ) → Option Request → List Check
+requestChecks t H levels none = (false else 12) ∷ []
+requestChecks t H levels (some r) =
     (declared t r else 13)
     ∷ ((inForce t wallRule implies wall t H r) else 14)
-    ∷ ((inForce t lowWaterRule implies lowWater t (currentLevel t H) r) else 15)
+    ∷ ((inForce t lowWaterRule implies lowWater t levels r) else 15)
     ∷ ((inForce t rolesRule implies roles t H r) else 16)
     ∷ ((inForce t pipelineRule implies pipeline t H r) else 17)
     ∷ []
 
--- judging over a set of requests
+-- judging over a set of requests and a level for each person
+unfoldable pub judgeWith : Tables → (Request → Bool) → (ℕ → ℕ) → List ℕ → ℕ
+judgeWith t H levels bytes = ladder (requestChecks t H levels (requestOf bytes))
+
+-- judging over a set of requests alone: the levels are those that the set gives
 unfoldable pub judgeOver : Tables → (Request → Bool) → List ℕ → ℕ
-judgeOver t H bytes = ladder (requestChecks t H (requestOf bytes))
+judgeOver t H bytes = judgeWith t H (currentLevel t H) bytes
 
 -- the granted requests, with this one where it is granted
 unfoldable pub addedIf : Bool → Option Request → List Request → List Request
@@ -55,31 +76,27 @@ judgeList t granted (bytes ∷ calls) =
     let number = judgeOver t (member granted) bytes in
     number ∷ judgeList t (addedIf (eqb number 0) (requestOf bytes) granted) calls
 
--- the checks of every call that takes tables and a history
-unfoldable pub callChecks : Tables → List ℕ → List Check
-callChecks t h = (eqb (length h) historyBytes else 10) ∷ (given t else 11) ∷ []
-
 -- judge: the number; nothing is recorded
-unfoldable pub judgeNumber : Tables → List ℕ → List ℕ → ℕ
-judgeNumber t h bytes = ladder (callChecks t h ++ requestChecks t (setOf h) (requestOf bytes))
+unfoldable pub judgeNumber : Tables → State → List ℕ → ℕ
+judgeNumber t a bytes = ladder (callChecks t a ++ requestChecks t (setOf (a .history)) (levelAt (a .levels)) (requestOf bytes))
 
--- put: the number that judge gives, and the history with the request where it is granted
-unfoldable pub recordedIf : Bool → List ℕ → Option Request → List ℕ
-recordedIf false h r = h
-recordedIf true h none = h
-recordedIf true h (some r) = recorded h r
+-- put: the number that judge gives, and where the request is granted the history with it and its person's level lowered
+unfoldable pub recordedIf : Tables → Bool → State → Option Request → State
+recordedIf t false a r = a
+recordedIf t true a none = a
+recordedIf t true a (some r) = state (recorded (a .history) r) (lowered t (a .levels) r)
 
-unfoldable pub putHistory : Tables → List ℕ → List ℕ → List ℕ
-putHistory t h bytes = recordedIf (eqb (judgeNumber t h bytes) 0) h (requestOf bytes)
+unfoldable pub putState : Tables → State → List ℕ → State
+putState t a bytes = recordedIf t (eqb (judgeNumber t a bytes) 0) a (requestOf bytes)
 
--- put after put: the numbers, and the history afterwards
-unfoldable pub putNumbers : Tables → List ℕ → List (List ℕ) → List ℕ
-putNumbers t h [] = []
-putNumbers t h (bytes ∷ calls) = judgeNumber t h bytes ∷ putNumbers t (putHistory t h bytes) calls
+-- put after put: the numbers, and the state afterwards
+unfoldable pub putNumbers : Tables → State → List (List ℕ) → List ℕ
+putNumbers t a [] = []
+putNumbers t a (bytes ∷ calls) = judgeNumber t a bytes ∷ putNumbers t (putState t a bytes) calls
 
-unfoldable pub putHistories : Tables → List ℕ → List (List ℕ) → List ℕ
-putHistories t h [] = h
-putHistories t h (bytes ∷ calls) = putHistories t (putHistory t h bytes) calls
+unfoldable pub putStates : Tables → State → List (List ℕ) → State
+putStates t a [] = a
+putStates t a (bytes ∷ calls) = putStates t (putState t a bytes) calls
 
 -- the bytes after the record at their front; none where it is unknown or cut
 unfoldable pub afterRecord : Option Request → List ℕ → List ℕ
@@ -110,38 +127,38 @@ unfoldable pub refusedIn : List ℕ → ℕ
 refusedIn [] = 0
 refusedIn (n ∷ numbers) = cond (eqb n 0) 0 1 + refusedIn numbers
 
--- run: its own number and the counts, the history afterwards, and the answer bytes afterwards
-unfoldable pub runNumber : Tables → List ℕ → List ℕ → List ℕ → ℕ
-runNumber t h requests answers = ladder (callChecks t h ++ (leb (answersDue requests) (length answers) else 18) ∷ [])
+-- run: its own number and the counts, the state afterwards, and the answer bytes afterwards
+unfoldable pub runNumber : Tables → State → List ℕ → List ℕ → ℕ
+runNumber t a requests answers = ladder (callChecks t a ++ (leb (answersDue requests) (length answers) else 18) ∷ [])
 
-unfoldable pub ran : Tables → List ℕ → List ℕ → List ℕ → Ran
-ran t h requests answers =
-    let numbers = putNumbers t h (callsOf requests) in
-    cond (eqb (runNumber t h requests answers) 0)
+unfoldable pub ran : Tables → State → List ℕ → List ℕ → Ran
+ran t a requests answers =
+    let numbers = putNumbers t a (callsOf requests) in
+    cond (eqb (runNumber t a requests answers) 0)
     (record { number = 0; granted = grantedIn numbers; refused = refusedIn numbers })
-    (record { number = runNumber t h requests answers; granted = 0; refused = 0 })
+    (record { number = runNumber t a requests answers; granted = 0; refused = 0 })
 
-unfoldable pub runHistory : Tables → List ℕ → List ℕ → List ℕ → List ℕ
-runHistory t h requests answers =
-    cond (eqb (runNumber t h requests answers) 0) (putHistories t h (callsOf requests)) h
+unfoldable pub runState : Tables → State → List ℕ → List ℕ → State
+runState t a requests answers =
+    cond (eqb (runNumber t a requests answers) 0) (putStates t a (callsOf requests)) a
 
-unfoldable pub runAnswers : Tables → List ℕ → List ℕ → List ℕ → List ℕ
-runAnswers t h requests answers =
-    cond (eqb (runNumber t h requests answers) 0)
-    (putNumbers t h (callsOf requests) ++ drop (answersDue requests) answers)
+unfoldable pub runAnswers : Tables → State → List ℕ → List ℕ → List ℕ
+runAnswers t a requests answers =
+    cond (eqb (runNumber t a requests answers) 0)
+    (putNumbers t a (callsOf requests) ++ drop (answersDue requests) answers)
     answers
 
--- standing: a person's current level, rights used and firms opened; zero with a refusal
-unfoldable pub standingNumber : Tables → List ℕ → ℕ → ℕ
-standingNumber t h s = ladder (callChecks t h ++ (personDeclared t s else 13) ∷ [])
+-- standing: a person's stored level, rights used and firms opened; zero with a refusal
+unfoldable pub standingNumber : Tables → State → ℕ → ℕ
+standingNumber t a s = ladder (callChecks t a ++ (personDeclared t s else 13) ∷ [])
 
-unfoldable pub standing : Tables → List ℕ → ℕ → Standing
-standing t h s =
-    cond (eqb (standingNumber t h s) 0)
+unfoldable pub standing : Tables → State → ℕ → Standing
+standing t a s =
+    cond (eqb (standingNumber t a s) 0)
     (record {
       number = 0;
-      level = record { 0 = currentLevel t (setOf h) s };
-      rights = countBelow 64 (used t (setOf h) s);
-      firms = countBelow 64 (opened t (setOf h) s);
+      level = record { 0 = levelAt (a .levels) s };
+      rights = countBelow 64 (used t (setOf (a .history)) s);
+      firms = countBelow 64 (opened t (setOf (a .history)) s);
     })
-    (record { number = standingNumber t h s; level = record { 0 = 0 }; rights = 0; firms = 0 })
+    (record { number = standingNumber t a s; level = record { 0 = 0 }; rights = 0; firms = 0 })

@@ -1,4 +1,4 @@
--- Document 01's table of causes. A row is a number and its cause, as a type; the rows of a call stand in the order of its checks. What is
+-- Document 01's table of causes, with document 02's. A row is a number and its cause, as a type; the rows of a call stand in the order of its checks. What is
 -- said here is written from the table and the text, and not from the definitions of the calls.
 use Prim.Native.Nat.{ℕ, _≤_, _<_}
 use mathlib.Core.Path.{_≡_}
@@ -9,13 +9,13 @@ use lib.ListN.{length}
 use Rattle.policy.specs.declared.Tables.{Tables}
 use Rattle.policy.specs.Tables.{personAt, folderAt}
 use Rattle.policy.specs.Request.{Request, read, write, start, step, setOf}
+use Rattle.policy.specs.Calls.{State}
 use Rattle.policy.specs.Published.{
   WallInForce,
   LowWaterInForce,
   RolesInForce,
   PipelineInForce,
   Wall,
-  LowWater,
   Roles,
   Pipeline,
 }
@@ -79,29 +79,31 @@ pub data Turns : List ℕ → List (List ℕ) → Type 0 where
 
 -- ---- the rows of each call
 
-abbrev pub blankCauses : List ℕ → List Cause
-blankCauses h = (10 when (length h ≢ 18944)) ∷ []
-
-abbrev pub callCauses : Tables → List ℕ → List Cause
-callCauses t h = (10 when (length h ≢ 18944)) ∷ (11 when (LoadGives t → ⊥)) ∷ []
-
--- judge and put
-abbrev pub judgeCauses : Tables → List ℕ → List ℕ → List Cause
-judgeCauses t h bytes =
-    callCauses t h
-    ++ (12 when NoRequest bytes)
-    ∷ (13 when RequestAtFront bytes (λ r. PartiesDeclared t r → ⊥))
-    ∷ (14 when RequestAtFront bytes (λ r. WallInForce t × (Wall t (setOf h) r → ⊥)))
-    ∷ (15 when RequestAtFront bytes (λ r. LowWaterInForce t × (LowWater t (setOf h) r → ⊥)))
-    ∷ (16 when RequestAtFront bytes (λ r. RolesInForce t × (Roles t (setOf h) r → ⊥)))
-    ∷ (17 when RequestAtFront bytes (λ r. PipelineInForce t × (Pipeline t (setOf h) r → ⊥)))
+-- what every call on tables, a history and levels has first; blank has no other
+abbrev pub callCauses : Tables → State → List Cause
+callCauses t a =
+    (10 when (length (a .history) ≢ 18944))
+    ∷ (20 when (length (a .levels) ≢ 128))
+    ∷ (11 when (LoadGives t → ⊥))
     ∷ []
 
-abbrev pub runCauses : Tables → List ℕ → List ℕ → List ℕ → List Cause
-runCauses t h requests answers =
-    callCauses t h
+-- judge and put, with low-water as it is read
+abbrev pub judgeCauses : Tables → State → List ℕ → (Request → Type 0) → List Cause
+judgeCauses t a bytes LowWater =
+    callCauses t a
+    ++ (12 when NoRequest bytes)
+    ∷ (13 when RequestAtFront bytes (λ r. PartiesDeclared t r → ⊥))
+    ∷ (14 when RequestAtFront bytes (λ r. WallInForce t × (Wall t (setOf (a .history)) r → ⊥)))
+    ∷ (15 when RequestAtFront bytes (λ r. LowWaterInForce t × (LowWater r → ⊥)))
+    ∷ (16 when RequestAtFront bytes (λ r. RolesInForce t × (Roles t (setOf (a .history)) r → ⊥)))
+    ∷ (17 when RequestAtFront bytes (λ r. PipelineInForce t × (Pipeline t (setOf (a .history)) r → ⊥)))
+    ∷ []
+
+abbrev pub runCauses : Tables → State → List ℕ → List ℕ → List Cause
+runCauses t a requests answers =
+    callCauses t a
     ++ (18 when ((calls : List (List ℕ)) × Turns requests calls × (length answers < length calls)))
     ∷ []
 
-abbrev pub standingCauses : Tables → List ℕ → ℕ → List Cause
-standingCauses t h s = callCauses t h ++ (13 when (IsPerson t s → ⊥)) ∷ []
+abbrev pub standingCauses : Tables → State → ℕ → List Cause
+standingCauses t a s = callCauses t a ++ (13 when (IsPerson t s → ⊥)) ∷ []

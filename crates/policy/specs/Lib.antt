@@ -3,11 +3,13 @@ pub mod Tables
 pub mod Rulebook
 pub mod History
 pub mod Request
+pub mod Levels
 pub mod Rules
 pub mod Calls
 pub mod Published
 pub mod Given
 pub mod Causes
+pub mod Held
 pub mod Ways
 pub mod Loading
 pub mod Counting

@@ -1,4 +1,4 @@
--- The marked cases P1 to P10 of document 01, and a case of document 02, Point 2: what is asked, and what is answered.
+-- The marked cases P1 to P10 of document 01, and cases of document 02, Points 2 and 4: what is asked, and what is answered.
 use Prim.Native.Nat.{ℕ}
 use mathlib.Core.Path.{_≡_}
 use mathlib.Core.Bool.{Bool}
@@ -7,7 +7,8 @@ use Rattle.level.specs.Levels.{meetOf}
 use Rattle.policy.specs.declared.Tables.{Tables}
 use Rattle.policy.specs.Checks.{_else_, ladder}
 use Rattle.policy.specs.Rulebook.{loadBook}
-use Rattle.policy.specs.Request.{Request, read, start, member}
+use Rattle.policy.specs.Request.{Request, read, write, start, step, member}
+use Rattle.policy.specs.Levels.{levelAt, lowered}
 use Rattle.policy.specs.Rules.{wall, lowWater, currentLevel}
 use Rattle.policy.specs.Calls.{restOf, callsOf, judgeList, grantedIn, refusedIn}
 
@@ -84,6 +85,10 @@ wallAnswer t H r = ladder ((wall t H r else 14) ∷ [])
 unfoldable pub lowWaterAnswer : Tables → (Request → Bool) → Request → ℕ
 lowWaterAnswer t H r = ladder ((lowWater t (currentLevel t H) r else 15) ∷ [])
 
+-- the same with the levels in a buffer
+unfoldable pub heldAnswer : Tables → List ℕ → Request → ℕ
+heldAnswer t levels r = ladder ((lowWater t (levelAt levels) r else 15) ∷ [])
+
 -- the answers, then how many grant and how many refuse
 unfoldable pub withTotals : List ℕ → List ℕ
 withTotals answers = answers ++ grantedIn answers ∷ refusedIn answers ∷ []
@@ -105,3 +110,10 @@ pub record MarkedCases : Type 0 where
   pub P9-other : wallAnswer (loadBook printedBook .tables) (member (read 0 0 ∷ read 0 1 ∷ [])) (read 0 1) ≡ 0
   pub P10 : played (bookWith (3 ∷ 0 ∷ 3 ∷ 0 ∷ 1 ∷ 0 ∷ 3 ∷ 0 ∷ []) ++ 19 ∷ 1 ∷ 2 ∷ 2 ∷ []) ≡ 16 ∷ []
   pub steps : played (stepsBook ++ stepsRequests) ≡ 0 ∷ 15 ∷ 15 ∷ 0 ∷ []
+  -- Point 4, with the book of Point 2 and an entry for person 0: a step on folder 1, and then a read of folder 2, lowers 0x2003 to 0x1001 and
+  -- to 0x1000; a write does not; and a write in folder 0 is judged by the entry, whatever was done
+  pub held-step : lowered (loadBook stepsBook .tables) (3 ∷ 32 ∷ []) (step 0 5 1) ≡ 1 ∷ 16 ∷ []
+  pub held-read : lowered (loadBook stepsBook .tables) (1 ∷ 16 ∷ []) (read 0 2) ≡ 0 ∷ 16 ∷ []
+  pub held-write : lowered (loadBook stepsBook .tables) (3 ∷ 32 ∷ []) (write 0 1) ≡ 3 ∷ 32 ∷ []
+  pub held-high : heldAnswer (loadBook stepsBook .tables) (3 ∷ 32 ∷ []) (write 0 0) ≡ 0
+  pub held-low : heldAnswer (loadBook stepsBook .tables) (1 ∷ 16 ∷ []) (write 0 0) ≡ 15

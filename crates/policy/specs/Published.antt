@@ -1,8 +1,10 @@
 -- The four rules as document 001 prints them (sections 4.1 to 4.4), with "there is" and "for all", as types.
-use Prim.Native.Nat.{ℕ, _+_}
+use Prim.Native.Nat.{ℕ, _+_, _*_}
 use mathlib.Core.Path.{_≡_}
 use mathlib.Core.Logic.{_⊎_, _↔_, _≢_}
 use mathlib.Core.Bool.{Bool, true, false}
+use mathlib.Core.List.{List}
+use lib.ListN.{getD}
 use Rattle.bits.specs.Bits.{bit}
 use Rattle.level.specs.Levels.{atMost}
 use Rattle.policy.specs.declared.Tables.{Tables}
@@ -16,6 +18,13 @@ Access (read s o) s′ o′ = (s ≡ s′) × (o ≡ o′)
 Access (write s o) s′ o′ = (s ≡ s′) × (o ≡ o′)
 Access (start s u) s′ o′ = ⊥
 Access (step s p o) s′ o′ = (s ≡ s′) × (o ≡ o′)
+
+-- the request is a read or a step of person s on folder o, which lower the person's level
+abbrev pub Observes : Request → ℕ → ℕ → Type 0
+Observes (read s o) s′ o′ = (s ≡ s′) × (o ≡ o′)
+Observes (write s o) s′ o′ = ⊥
+Observes (start s u) s′ o′ = ⊥
+Observes (step s p o) s′ o′ = (s ≡ s′) × (o ≡ o′)
 
 -- the person whose request it is: of a start, the one who starts
 abbrev pub requester : Request → ℕ
@@ -116,3 +125,14 @@ module _ (t : Tables) (H : Request → Bool) where
       ((q ≡ 0) × ((p : ℕ) → Applied p o → ⊥))
       ⊎ ((q ≢ 0)
       × ((p : ℕ) × Applied p o × (enables t p q ≡ true) × ((p″ : ℕ) → Applied p″ o → enables t p p″ ≡ true → ⊥)))
+
+-- the level held ready for person s in a level buffer (document 02, Point 4): 2 bytes at 2 × s, low byte first
+abbrev pub heldLevel : List ℕ → ℕ → ℕ
+heldLevel levels s = getD levels (2 * s) 0 + 256 * getD levels (2 * s + 1) 0
+
+-- low-water, read with the levels in the buffer, whatever the history gives
+abbrev pub LowWaterHeld : Tables → List ℕ → Request → Type 0
+LowWaterHeld t levels (read s o) = Unit {0}
+LowWaterHeld t levels (write s o) = atMost 12 (folderAt t o .level .0) (heldLevel levels s) ≡ true
+LowWaterHeld t levels (start s u) = atMost 12 (heldLevel levels u) (heldLevel levels s) ≡ true
+LowWaterHeld t levels (step s p o) = atMost 12 (folderAt t o .level .0) (heldLevel levels s) ≡ true

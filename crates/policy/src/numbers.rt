@@ -59,3 +59,6 @@ pub const TOO_FEW_ANSWERS: u8 = 18;
 
 // Folder marked public, but not declared earlier.
 pub const FOLDER_NOT_DECLARED: u8 = 19;
+
+// Levels not 128 bytes.
+pub const WRONG_LEVELS_LENGTH: u8 = 20;

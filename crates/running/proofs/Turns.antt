@@ -1,5 +1,5 @@
--- A run, turn by turn. What a whole run gives splits into what is written so far and what the rest of the requests gives on the history so
--- far; a put moves its number from the second part to the first, and at the end nothing is left of the second.
+-- A run, turn by turn. What a whole run gives splits into what is written so far and what the rest of the requests gives on the history and
+-- the levels so far; a put moves its number from the second part to the first, and at the end nothing is left of the second.
 use Prim.Native.Nat.{ℕ, _+_, _-_, _≤_, _<_}
 use native.Mathlib.Numerals.{add-one}
 use native.Mathlib.Omega.{arith}
@@ -9,13 +9,14 @@ use mathlib.Core.Bool.{Bool, true, false, cond}
 use mathlib.Core.List.{List, [], _∷_, _++_, append-nil, append-assoc}
 use mathlib.Core.Option.{Option, none, some}
 use lib.Dec.{eqb}
-use lib.ListN.{length, set, drop, length-set, length-append}
+use lib.ListN.{length, set, drop, length-append}
 use lib.Seq.{drop-cons, set-append-seam}
 use Rattle.bits.proofs.Booleans.{decide}
 use Rattle.policy.specs.declared.Tables.{Tables}
-use Rattle.policy.specs.History.{withBitAt}
-use Rattle.policy.specs.Request.{Request, requestOf, recorded}
-use Rattle.policy.specs.Calls.{recordedIf, putHistory, putNumbers, putHistories, callsOf, answersDue, grantedIn}
+use Rattle.policy.specs.Request.{Request, requestOf}
+use Rattle.policy.specs.Calls.{State, recordedIf, putState, putNumbers, putStates, callsOf, answersDue, grantedIn}
+use Rattle.policy.proofs.Places.{size-recorded}
+use Rattle.policy.proofs.LevelBytes.{size-lowered}
 use Rattle.policy.proofs.Runs.{numbers-length, counted-once}
 use Rattle.judging.specs.Judging.{Ready}
 use Rattle.running.specs.Running.{runNumbers, Turned, Finished}
@@ -23,16 +24,23 @@ use Rattle.running.proofs.Records.{calls-at, none-left, none-due}
 
 -- ---- one put
 
-recorded-length : (b : Bool) (h : List ℕ) (r : Option Request) → length (recordedIf b h r) ≡ length h
-unfolding recordedIf recorded withBitAt
-recorded-length false h r = refl
-recorded-length true h none = refl
-recorded-length true h (some r) = length-set h _ _
+-- a put keeps both lengths
+recorded-ready : (t : Tables) (b : Bool) (a : State) (r : Option Request) → Ready t (a .history) (a .levels)
+    → Ready t (recordedIf t b a r .history) (recordedIf t b a r .levels)
+unfolding recordedIf
+recorded-ready t false a r ready = ready
+recorded-ready t true a none ready = ready
+recorded-ready t true a (some r) ready =
+    record {
+      tables = ready .tables;
+      size = size-recorded (a .history) r ∙ ready .size;
+      held = size-lowered t (a .levels) r ∙ ready .held;
+    }
 
-pub ready-put : (t : Tables) (h bytes : List ℕ) → Ready t h → Ready t (putHistory t h bytes)
-unfolding putHistory
-ready-put t h bytes ready =
-    record { tables = ready .tables; size = recorded-length _ h (requestOf bytes) ∙ ready .size }
+pub ready-put : (t : Tables) (a : State) (bytes : List ℕ) → Ready t (a .history) (a .levels)
+    → Ready t (putState t a bytes .history) (putState t a bytes .levels)
+unfolding putState
+ready-put t a bytes ready = recorded-ready t _ a (requestOf bytes) ready
 
 -- ---- the counts
 
@@ -53,23 +61,24 @@ written-more l answers i n e below =
 
 -- ---- a run so far
 
--- the history and the answers after i puts, of which some are granted, with the requests from a place on left
-pub record Done (t : Tables) (h₀ requests answers₀ : List ℕ) (at i granted : ℕ) (h answers : List ℕ) : Type 0 where
+-- the history, the levels and the answers after i puts, of which some are granted, with the requests from a place on left
+pub record Done (t : Tables) (a₀ : State) (requests answers₀ : List ℕ) (at i granted : ℕ) (a : State) (answers : List ℕ) : Type 0 where
   pub written : List ℕ
-  pub histories : putHistories t h₀ (callsOf requests) ≡ putHistories t h (callsOf (drop at requests))
-  pub numbers : runNumbers t h₀ requests ≡ written ++ runNumbers t h (drop at requests)
+  pub states : putStates t a₀ (callsOf requests) ≡ putStates t a (callsOf (drop at requests))
+  pub numbers : runNumbers t a₀ requests ≡ written ++ runNumbers t a (drop at requests)
   pub many : length written ≡ i
   pub zeros : granted ≡ grantedIn written
   pub bytes : answers ≡ written ++ drop i answers₀
-  pub ready : Ready t h
+  pub ready : Ready t (a .history) (a .levels)
 
-pub done-none : {t : Tables} {h₀ requests answers₀ : List ℕ} → Ready t h₀ → Done t h₀ requests answers₀ 0 0 0 h₀ answers₀
+pub done-none : {t : Tables} {a₀ : State} {requests answers₀ : List ℕ} → Ready t (a₀ .history) (a₀ .levels)
+    → Done t a₀ requests answers₀ 0 0 0 a₀ answers₀
 unfolding grantedIn
 done-none ready =
-    record { written = []; histories = refl; numbers = refl; many = refl; zeros = refl; bytes = refl; ready = ready }
+    record { written = []; states = refl; numbers = refl; many = refl; zeros = refl; bytes = refl; ready = ready }
 
-module _ {t : Tables} {h₀ requests answers₀ : List ℕ} {at i granted : ℕ} {h answers : List ℕ}
-    (done : Done t h₀ requests answers₀ at i granted h answers) where
+module _ {t : Tables} {a₀ : State} {requests answers₀ : List ℕ} {at i granted : ℕ} {a : State} {answers : List ℕ}
+    (done : Done t a₀ requests answers₀ at i granted a answers) where
   -- no more are granted than put
   pub done-granted : granted ≤ i
   done-granted = omega (arith, done .zeros, done .many, counted-once (done .written))
@@ -78,38 +87,38 @@ module _ {t : Tables} {h₀ requests answers₀ : List ℕ} {at i granted : ℕ}
   pub done-due : answersDue requests ≡ i + answersDue (drop at requests)
   unfolding answersDue
   done-due =
-      sym (numbers-length t h₀ (callsOf requests)) ∙ ap length (done .numbers) ∙ length-append (done .written) _
-      ∙ rw (done .many, numbers-length t h (callsOf (drop at requests)))
+      sym (numbers-length t a₀ (callsOf requests)) ∙ ap length (done .numbers) ∙ length-append (done .written) _
+      ∙ rw (done .many, numbers-length t a (callsOf (drop at requests)))
 
   -- one put more
-  pub done-more : {n next g : ℕ} {after : List ℕ} → at < length requests → i < length answers₀
-      → Turned t h (drop at requests) n next after → g ≡ cond (eqb n 0) 1 0
-      → Done t h₀ requests answers₀ (at + next) (i + 1) (granted + g) after (set answers i n)
-  unfolding putHistories putNumbers
+  pub done-more : {n next g : ℕ} {after : State} → at < length requests → i < length answers₀
+      → Turned t a (drop at requests) n next after → g ≡ cond (eqb n 0) 1 0
+      → Done t a₀ requests answers₀ (at + next) (i + 1) (granted + g) after (set answers i n)
+  unfolding putStates putNumbers
   done-more {n} below room turn one =
       let calls = calls-at requests at below in
-      rw (turn .history, turn .onward, one)
+      rw (turn .left, turn .onward, one)
       (record {
         written = done .written ++ n ∷ [];
-        histories = done .histories ∙ rw calls;
-        numbers = done .numbers ∙ rw (calls, append-assoc, turn .judged);
+        states = done .states ∙ rw calls;
+        numbers = done .numbers ∙ rw (calls, append-assoc, turn .judgedAs);
         many = length-append (done .written) (n ∷ []) ∙ rw (done .many);
         zeros = rw (granted-more (done .written) n, done .zeros);
         bytes = rw (done .bytes) (written-more (done .written) answers₀ i n (done .many) room);
-        ready = ready-put t h (drop at requests) (done .ready);
+        ready = ready-put t a (drop at requests) (done .ready);
       })
 
   -- no put more
-  pub done-all : length requests ≤ at → Finished t h₀ requests answers₀ granted (i - granted) h answers
-  unfolding putHistories putNumbers
+  pub done-all : length requests ≤ at → Finished t a₀ requests answers₀ granted (i - granted) a answers
+  unfolding putStates putNumbers
   done-all end =
       let none = none-left requests at end in
-      let all : runNumbers t h₀ requests ≡ done .written = done .numbers ∙ rw none (append-nil (done .written)) in
+      let all : runNumbers t a₀ requests ≡ done .written = done .numbers ∙ rw none (append-nil (done .written)) in
       let both = counted-once (done .written) in
       let due : answersDue requests ≡ i = omega (arith, done-due, none-due requests at end) in
       record {
         granted = rw all (done .zeros);
         refused = rw all (omega (arith, done .many, done .zeros));
-        history = sym (done .histories ∙ rw none);
+        left = sym (done .states ∙ rw none);
         answers = rw (all, due) (done .bytes);
       }

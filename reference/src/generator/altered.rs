@@ -9,13 +9,18 @@ use crate::history::{index, HISTORY_BYTES};
 use crate::places::{number, places};
 use crate::play::HISTORY_BUFFER;
 use crate::request::Request;
+use crate::tables::given;
 
 impl Generator {
-    /// A history with bytes set at random, which no list leaves.
+    /// A history with bytes set at random, which no list leaves. In some of the
+    /// scenes the levels stored are those that it gives.
     pub fn foreign_history(&mut self, plan: &Plan, bytes: usize) {
         self.begin(plan);
         for _ in 0..bytes {
             self.foreign_byte();
+        }
+        if !self.next_has_other_levels() {
+            self.store_levels_of_history();
         }
         self.standings_of_declared();
         for _ in 0..bytes {
@@ -134,9 +139,9 @@ impl Generator {
 
     /// One to three calls, whichever number they give.
     pub fn probe(&mut self) {
-        let history = self.history_now();
+        let state = self.state_now();
         let record = if self.random.chance(85) {
-            self.likely_granted(&history).as_record()
+            self.likely_granted(&state).as_record()
         } else {
             self.unreadable()
         };
@@ -149,6 +154,7 @@ impl Generator {
                 self.standing(person);
             }
             3 => self.wrong_length_call(),
+            _ if !given(&self.player.tables) => self.blank(),
             _ => {}
         }
     }
@@ -217,6 +223,9 @@ impl Generator {
         for _ in 0..30 {
             self.foreign_byte();
         }
+        if !self.next_has_other_levels() {
+            self.store_levels_of_history();
+        }
         let requests = self.some_list(30).concat();
         self.run(answers_due(&requests), &requests);
         self.standings_of_declared();
@@ -238,7 +247,11 @@ impl Generator {
                 self.after_undeclaring(person);
             }
         }
-        // A firm with a folder must stay, a firm without one need not.
+        self.undeclare_firms();
+    }
+
+    /// A firm with a folder must stay, a firm without one need not.
+    fn undeclare_firms(&mut self) {
         for firm in 0..64 {
             if self.player.tables.firm_declared(firm) {
                 self.field(2, firm, 0);

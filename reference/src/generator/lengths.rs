@@ -1,18 +1,30 @@
-//! Scenes of histories and answer buffers of wrong lengths, and long runs.
+//! Scenes of histories, levels and answer buffers of wrong lengths, and long
+//! runs.
 
 use super::plans::Plan;
 use super::{Generator, WHOLE};
 use crate::calls::answers_due;
-use crate::command::Command;
+use crate::command::{Command, Lengths};
+use crate::marked;
 use crate::play::ANSWER_BUFFER;
 
 /// History lengths that are answered 10; the last two are taken as 18,960.
-const WRONG_LENGTHS: [u16; 8] = [0, 1, 8192, 18_943, 18_945, 18_960, 18_961, 65_535];
+const WRONG_HISTORIES: [u16; 8] = [0, 1, 8192, 18_943, 18_945, 18_960, 18_961, 65_535];
+
+/// Lengths of levels that are answered 20; the last two are taken as 144.
+const WRONG_LEVELS: [u8; 10] = [0, 1, 2, 64, 127, 129, 130, 144, 145, 255];
 
 impl Generator {
-    /// Any call with a history of another length: 10, and no byte changes.
+    /// Any call with a history or levels of another length, or both: 10 or 20,
+    /// and no byte changes.
     pub fn wrong_length_call(&mut self) {
-        let history = self.random.pick(&WRONG_LENGTHS);
+        let history = self.random.pick(&WRONG_HISTORIES);
+        let levels = self.random.pick(&WRONG_LEVELS);
+        let lent = match self.random.below(5) {
+            0..=1 => Lengths { history, ..WHOLE },
+            2..=3 => Lengths { levels, ..WHOLE },
+            _ => Lengths { history, levels },
+        };
         let request = if self.random.chance(70) {
             self.some_request().as_record()
         } else {
@@ -20,18 +32,28 @@ impl Generator {
         };
         let person = self.some_person();
         let answers = self.random.pick(&[0, 1, 2, 4096]);
-        let command = match self.random.below(5) {
-            0 => Command::Blank { history },
-            1 => Command::Judge { history, request },
-            2 => Command::Put { history, request },
-            3 => Command::Run {
-                history,
-                answers,
-                requests: request,
-            },
-            _ => Command::Standing { history, person },
-        };
-        self.send(command);
+        let which = self.random.below(5);
+        self.send(call_of(which, lent, request, answers, person));
+    }
+
+    /// Each call with each of the causes of 10, 20 and 11, alone and together,
+    /// over levels that no list leaves.
+    pub fn order_of_checks(&mut self) {
+        self.load(&marked::BOOK);
+        self.blank();
+        self.put(&[16, 0, 2]);
+        self.store_other_levels(4);
+        for mask in [15, 16] {
+            self.field(0, 0, mask);
+            for history in [18_944, 18_945, 18_943] {
+                for levels in [128, 127, 129] {
+                    let lent = Lengths { history, levels };
+                    for which in 0..5 {
+                        self.send(call_of(which, lent, vec![16, 0, 2], 0, 0));
+                    }
+                }
+            }
+        }
     }
 
     pub fn wrong_lengths(&mut self) {
@@ -40,12 +62,12 @@ impl Generator {
         for record in self.some_list(10) {
             self.put(&record);
         }
-        for _ in 0..60 {
+        for _ in 0..75 {
             self.wrong_length_call();
         }
-        // 10 stands before 11.
+        // 10 and 20 stand before 11.
         self.field(0, 0, 77);
-        for _ in 0..10 {
+        for _ in 0..20 {
             self.wrong_length_call();
             self.probe();
         }
@@ -71,19 +93,23 @@ impl Generator {
             self.run(0, &[kind]);
             self.run(1, &[kind, 16, 0, 0]);
         }
-        // 11 stands before 18, and 10 before both.
-        self.field(0, 0, 16);
-        self.run(0, &[16, 0, 0]);
-        self.send(Command::Run {
-            history: WHOLE - 1,
-            answers: 0,
-            requests: vec![16, 0, 0],
-        });
+        // 20 and 11 stand before 18, and 10 before all.
+        for mask in [15, 16] {
+            self.field(0, 0, mask);
+            self.run(0, &[16, 0, 0]);
+            for (history, levels) in [(18_943, 128), (18_944, 127), (18_943, 127)] {
+                self.send(Command::Run {
+                    lent: Lengths { history, levels },
+                    answers: 0,
+                    requests: vec![16, 0, 0],
+                });
+            }
+        }
         self.run(0, &[]);
     }
 
     /// As many answers as the answer buffer holds, and one more. With so few
-    /// levels every rule refuses a good part.
+    /// levels of folders every rule refuses a good part.
     pub fn long_runs(&mut self) {
         let plan = Plan {
             row: &[2],
@@ -91,6 +117,7 @@ impl Generator {
         };
         self.begin(&plan);
         self.fill(170);
+        self.store_others_for_declared();
         let mut requests = self.some_list(ANSWER_BUFFER).concat();
         let mut longer = requests.clone();
         longer.push(16);
@@ -100,5 +127,20 @@ impl Generator {
         requests.truncate(1000);
         requests.push(255);
         self.run(ANSWER_BUFFER, &requests);
+    }
+}
+
+/// One of the five calls that are lent a history and levels.
+fn call_of(which: usize, lent: Lengths, request: Vec<u8>, answers: u16, person: u8) -> Command {
+    match which {
+        0 => Command::Blank { lent },
+        1 => Command::Judge { lent, request },
+        2 => Command::Put { lent, request },
+        3 => Command::Run {
+            lent,
+            answers,
+            requests: request,
+        },
+        _ => Command::Standing { lent, person },
     }
 }

@@ -1,20 +1,25 @@
 //! Requests for the files of calls: mostly of declared parties, and a good
 //! part of them granted.
 
-use super::{Generator, WHOLE};
-use crate::history::{set_of, History};
+use super::Generator;
+use crate::history::HISTORY_BYTES;
+use crate::levels::LEVELS_BYTES;
 use crate::numbers::GRANTED;
 use crate::request::Request;
 use crate::rules::judge_request;
+use crate::state::State;
 use crate::tables::given;
 
 /// The kinds of requests, each as often as it comes up.
 const KINDS: &[u8] = &[16, 16, 16, 17, 17, 18, 18, 19, 19, 19];
 
 impl Generator {
-    /// The set of requests in the player's history.
-    pub fn history_now(&self) -> History {
-        set_of(&self.player.history[..usize::from(WHOLE)])
+    /// What lies in the player's history and levels.
+    pub fn state_now(&self) -> State {
+        State::of(
+            &self.player.history[..HISTORY_BYTES],
+            &self.player.levels[..LEVELS_BYTES],
+        )
     }
 
     pub fn declared_persons(&self) -> Vec<u8> {
@@ -89,22 +94,22 @@ impl Generator {
     }
 
     /// Tables that no load gives grant nothing.
-    fn would_grant(&self, history: &History, request: &Request) -> bool {
+    fn would_grant(&self, state: &State, request: &Request) -> bool {
         let tables = &self.player.tables;
-        given(tables) && judge_request(tables, history, request) == GRANTED
+        given(tables) && judge_request(tables, state, request) == GRANTED
     }
 
-    pub fn likely_granted(&mut self, history: &History) -> Request {
+    pub fn likely_granted(&mut self, state: &State) -> Request {
         let kind = self.random.pick(KINDS);
-        self.likely_granted_of(kind, history)
+        self.likely_granted_of(kind, state)
     }
 
     /// A request of this kind that would be granted and is not in the history
     /// yet, if a few tries find one.
-    fn likely_granted_of(&mut self, kind: u8, history: &History) -> Request {
+    fn likely_granted_of(&mut self, kind: u8, state: &State) -> Request {
         let mut request = self.request_of(kind);
         for _ in 0..16 {
-            if self.would_grant(history, &request) && !history.contains(&request) {
+            if self.would_grant(state, &request) && !state.history.contains(&request) {
                 break;
             }
             request = self.request_of(kind);
@@ -116,12 +121,12 @@ impl Generator {
         self.list_of(KINDS, count)
     }
 
-    /// Records of a list of these kinds that begins at the player's history:
+    /// Records of a list of these kinds that begins at the player's buffers:
     /// new requests that are mostly granted, repeats, and requests as they
     /// come.
     pub fn list_of(&mut self, kinds: &[u8], count: usize) -> Vec<Vec<u8>> {
-        let mut history = self.history_now();
-        let mut earlier: Vec<Request> = history.iter().copied().collect();
+        let mut state = self.state_now();
+        let mut earlier: Vec<Request> = state.history.iter().copied().collect();
         let mut records = Vec::new();
         for _ in 0..count {
             let kind = self.random.pick(kinds);
@@ -129,12 +134,12 @@ impl Generator {
             let request = if choice < 12 && !earlier.is_empty() {
                 self.random.pick(&earlier)
             } else if choice < 65 {
-                self.likely_granted_of(kind, &history)
+                self.likely_granted_of(kind, &state)
             } else {
                 self.request_of(kind)
             };
-            if self.would_grant(&history, &request) {
-                history.insert(request);
+            if self.would_grant(&state, &request) {
+                state.record(&self.player.tables, &request);
             }
             earlier.push(request);
             records.push(request.as_record());

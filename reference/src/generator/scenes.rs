@@ -23,6 +23,7 @@ impl Generator {
         }
         self.long_runs();
         self.few_stretches();
+        self.levels_held();
     }
 
     /// Lists of calls from blank, under every mask and in books of every size.
@@ -270,9 +271,15 @@ impl Generator {
         }
     }
 
-    /// One book, then puts, judges and runs from blank, and standings.
+    /// One book, then puts, judges and runs from blank, and standings. In some
+    /// of the scenes other levels are stored before the puts and before each
+    /// run.
     fn list_scene(&mut self, plan: &Plan, puts: usize, runs: usize) {
         self.begin(plan);
+        let other_levels = self.next_has_other_levels();
+        if other_levels {
+            self.store_others_for_declared();
+        }
         for record in self.some_list(puts) {
             let record = self.with_oddities(record);
             if self.random.chance(25) {
@@ -281,7 +288,13 @@ impl Generator {
             self.put(&record);
         }
         self.standings_of_declared();
+        if other_levels {
+            self.store_others_for_declared();
+        }
         for _ in 0..runs {
+            if other_levels {
+                self.store_other_levels(2);
+            }
             let count = self.random.between(1, 36);
             self.some_run(count);
         }

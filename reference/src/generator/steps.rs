@@ -51,9 +51,13 @@ impl Generator {
         }
     }
 
-    /// Puts, with the level after each step, judged requests and a run.
+    /// Puts, with the level after each step, judged requests and a run. In some
+    /// scenes other levels are stored first.
     fn list_without_reads(&mut self, plan: &Plan, count: usize) {
         self.begin(plan);
+        if self.next_has_other_levels() {
+            self.store_others_for_declared();
+        }
         for record in self.list_of(NO_READS, count) {
             self.put(&record);
             if record[0] == 19 {
@@ -70,7 +74,8 @@ impl Generator {
 
     /// Every person steps on two folders of 128, with each step eight times:
     /// the level of each person tells which folders these were, first where
-    /// low-water is not in force and then by what it refuses.
+    /// low-water is not in force and then by what it refuses; and once more on
+    /// other levels.
     pub fn everybody_steps(&mut self) {
         let book = self.book_of_levels();
         self.load(&book);
@@ -90,6 +95,10 @@ impl Generator {
         for requests in [&writes, &starts, &steps] {
             self.run(128, requests);
         }
+        self.store_others_for_declared();
+        for requests in [&writes, &starts, &steps] {
+            self.run(128, requests);
+        }
     }
 
     /// No rule, all persons at the highest level and all folders at any.
@@ -106,7 +115,8 @@ impl Generator {
     }
 
     /// Histories that no list leaves: first everybody stepped on undeclared
-    /// folders, which lower nothing, then some on declared ones.
+    /// folders, which lower nothing, then some on declared ones; at the end the
+    /// levels stored are those that the history gives.
     pub fn foreign_steps(&mut self, plan: &Plan) {
         self.begin(plan);
         let declared = self.declared_folders();
@@ -121,6 +131,8 @@ impl Generator {
             self.bits_of_step(folder, |generator| generator.random.byte());
             self.look_at_levels();
         }
+        self.store_levels_of_history();
+        self.look_at_levels();
     }
 
     /// Sets the 8 bytes of some step on a folder, a bit for each person.

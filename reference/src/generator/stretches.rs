@@ -6,8 +6,10 @@ use super::Generator;
 impl Generator {
     /// Every person reads two folders of one stretch, four persons in each:
     /// the level of each tells which folders these were, first where low-water
-    /// is not in force and then by what it refuses. Then bytes of some persons
-    /// set at once: one folder of each stretch, all of them, and none.
+    /// is not in force and then by what it refuses; and once more on other
+    /// levels. Then bytes of some persons set at once: one folder of each
+    /// stretch, all of them, and none; the level stored is the one before and
+    /// then the one that the history gives.
     pub fn few_stretches(&mut self) {
         let book = self.book_of_levels();
         self.load(&book);
@@ -26,6 +28,10 @@ impl Generator {
         for requests in [&writes, &starts, &reads] {
             self.run(128, requests);
         }
+        self.store_others_for_declared();
+        for requests in [&writes, &starts] {
+            self.run(128, requests);
+        }
         for person in [0, 21, 63] {
             self.bytes_of_reads(person, |generator| 1 << generator.random.below(8));
             self.bytes_of_reads(person, |_| 255);
@@ -33,14 +39,18 @@ impl Generator {
         }
     }
 
-    /// Sets the sixteen bytes of a person's reads, and looks at the level.
+    /// Sets the sixteen bytes of a person's reads, and looks at the level before
+    /// and after it is stored anew.
     fn bytes_of_reads(&mut self, person: u8, value: impl Fn(&mut Generator) -> u8) {
         for place in 0..16 {
             let value = value(self);
             self.byte(16 * usize::from(person) + place, value);
         }
-        self.standing(person);
-        let folder = self.random.below(128) as u8;
-        self.judge(&[17, person, folder]);
+        for _ in 0..2 {
+            self.standing(person);
+            let folder = self.random.below(128) as u8;
+            self.judge(&[17, person, folder]);
+            self.store_levels_of_history();
+        }
     }
 }

@@ -3,10 +3,6 @@
 use reference::marked::BOOK;
 use reference::{load, Ran, Tables};
 
-pub fn history() -> Vec<u8> {
-    vec![0; 18_944]
-}
-
 pub fn marked() -> Tables {
     load(&BOOK).tables
 }

@@ -1,11 +1,10 @@
 //! The committed files of calls, walked through command by command.
 
-use reference::command::{Command, Reader};
-use reference::history::{set_of, History};
+use reference::command::{Command, Lengths, Reader};
 use reference::play::Player;
 use reference::request::{read_record, record_length};
 use reference::rules::judge_request;
-use reference::{judge, run, Request, Tables};
+use reference::{judge, run, Request, State, Tables};
 use std::fs;
 
 pub fn committed(name: &str) -> Vec<u8> {
@@ -35,49 +34,55 @@ pub fn each_command(calls: &[u8], mut look: impl FnMut(&Player, &Command)) {
     }
 }
 
-/// The front part of the history buffer that a command names.
-pub fn front(player: &Player, named: u16) -> &[u8] {
-    &player.history[..usize::from(named).min(player.history.len())]
+/// The front parts of the history buffer and of the level buffer that a command
+/// names.
+pub fn fronts<'a>(player: &'a Player, lent: &Lengths) -> (&'a [u8], &'a [u8]) {
+    let history = usize::from(lent.history).min(player.history.len());
+    let levels = usize::from(lent.levels).min(player.levels.len());
+    (&player.history[..history], &player.levels[..levels])
 }
 
 /// Shows every request that is judged, by judge, put or run, with the tables
-/// and the history before it.
-pub fn each_judged(calls: &[u8], mut look: impl FnMut(&Tables, &History, &Request)) {
+/// and what lies in the buffers before it.
+pub fn each_judged(calls: &[u8], mut look: impl FnMut(&Tables, &State, &Request)) {
     each_command(calls, |player, command| match command {
-        Command::Judge { history, request } | Command::Put { history, request } => {
-            let bytes = front(player, *history);
-            // 10, 11 and 12 come before any rule.
-            if !(10..=12).contains(&judge(&player.tables, bytes, request)) {
+        Command::Judge { lent, request } | Command::Put { lent, request } => {
+            let (history, levels) = fronts(player, lent);
+            // 10, 20, 11 and 12 come before any rule.
+            if ![10, 20, 11, 12].contains(&judge(&player.tables, history, levels, request)) {
                 let request = read_record(request).unwrap();
-                look(&player.tables, &set_of(bytes), &request);
+                look(&player.tables, &State::of(history, levels), &request);
             }
         }
         Command::Run {
-            history,
+            lent,
             answers,
             requests,
         } => {
-            let (tables, bytes) = (&player.tables, front(player, *history));
+            let (tables, (history, levels)) = (&player.tables, fronts(player, lent));
             let mut room = vec![0; usize::from(*answers).min(player.answers.len())];
-            if run(tables, &mut bytes.to_vec(), requests, &mut room).number == 0 {
-                each_in_run(tables, set_of(bytes), requests, &mut look);
+            let (mut left, mut lowered) = (history.to_vec(), levels.to_vec());
+            if run(tables, &mut left, &mut lowered, requests, &mut room).number == 0 {
+                let state = State::of(history, levels);
+                each_in_run(tables, state, requests, &mut look);
             }
         }
         _ => {}
     });
 }
 
-fn each_in_run(
+/// Shows the requests of a run up to its end or an unreadable one.
+pub fn each_in_run(
     tables: &Tables,
-    mut history: History,
+    mut state: State,
     requests: &[u8],
-    look: &mut impl FnMut(&Tables, &History, &Request),
+    look: &mut impl FnMut(&Tables, &State, &Request),
 ) {
     let mut left = requests;
     while let Some(request) = read_record(left) {
-        look(tables, &history, &request);
-        if judge_request(tables, &history, &request) == 0 {
-            history.insert(request);
+        look(tables, &state, &request);
+        if judge_request(tables, &state, &request) == 0 {
+            state.record(tables, &request);
         }
         left = &left[record_length(left[0]).unwrap()..];
     }

@@ -18,6 +18,9 @@ use Rattle.report.proofs.put_totals.Reads as put-totals-reads
 slice-aggregate-blank : tie.Need-slice-aggregate-blank
 slice-aggregate-blank c = search needs
 
+slice-aggregate-blank-2 : tie.Need-slice-aggregate-blank-2
+slice-aggregate-blank-2 c = search needs
+
 blank-requires : tie.Need-blank-requires
 blank-requires c κs = search needs
 
@@ -27,22 +30,25 @@ slice-aggregate-run c = search needs
 slice-aggregate-run-2 : tie.Need-slice-aggregate-run-2
 slice-aggregate-run-2 c = search needs
 
+slice-aggregate-run-3 : tie.Need-slice-aggregate-run-3
+slice-aggregate-run-3 c = search needs
+
 run-requires : tie.Need-run-requires
 run-requires c κs = search needs
 
 add-due : tie.Need-add-due
-add-due c = omega (arith, counts-fit (c .before .before .before .run .ensures))
+add-due c = omega (arith, counts-fit (c .before .before .before .before .run .ensures))
 
 array-share-prefix-answers : tie.Need-array-share-prefix-answers
-array-share-prefix-answers c = omega (arith, counts-fit (c .before .before .before .run .ensures))
+array-share-prefix-answers c = omega (arith, counts-fit (c .before .before .before .before .run .ensures))
 
 slice-aggregate-print-lines : tie.Need-slice-aggregate-print-lines
 slice-aggregate-print-lines c =
-    let call-run = c .before .before .before .before .run in
+    let call-run = c .before .before .before .before .before .run in
     omega (
       arith,
       counts-fit (call-run .ensures),
-      length-take (call-run .result .granted + call-run .result .refused) (call-run .last .1 .1 .1 .0),
+      length-take (call-run .result .granted + call-run .result .refused) (call-run .last .1 .1 .1 .1 .0),
     )
 
 print-lines-requires : tie.Need-print-lines-requires
@@ -73,9 +79,11 @@ print-answers-spec =
     tie.close
     (tie.spec
     slice-aggregate-blank
+    slice-aggregate-blank-2
     blank-requires
     slice-aggregate-run
     slice-aggregate-run-2
+    slice-aggregate-run-3
     run-requires
     add-due
     array-share-prefix-answers

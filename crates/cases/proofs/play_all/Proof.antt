@@ -7,10 +7,11 @@ use Rattle.cases.proofs.play_all.Statement.{statement}
 use Rattle.cases.proofs.play_all.Tie as tie
 
 abbrev Inv-loop : tie.InvT-loop
-Inv-loop calls h₀ answers₀ t₀ at₀ h answers t at = (length h ≡ length h₀) × (length answers ≡ length answers₀)
+Inv-loop calls h₀ l₀ answers₀ t₀ at₀ h l answers t at =
+    (length h ≡ length h₀) × (length l ≡ length l₀) × (length answers ≡ length answers₀)
 
 abbrev μ-loop : tie.MeasureT-loop
-μ-loop calls h₀ answers₀ t₀ at₀ h answers t at = length calls - at
+μ-loop calls h₀ l₀ answers₀ t₀ at₀ h l answers t at = length calls - at
 
 slice-aggregate-load : tie.Need-slice-aggregate-load Inv-loop μ-loop
 slice-aggregate-load c = search needs
@@ -19,7 +20,7 @@ load-requires : tie.Need-load-requires Inv-loop μ-loop
 load-requires c κs = search needs
 
 loop-holds : tie.Need-loop-holds Inv-loop μ-loop
-loop-holds c = (search needs, search needs)
+loop-holds c = (search needs, search needs, search needs)
 
 sub-command : tie.Need-sub-command Inv-loop μ-loop
 sub-command c = search needs
@@ -38,6 +39,9 @@ same-length c = search needs
 
 same-length-2 : tie.Need-same-length-2 Inv-loop μ-loop
 same-length-2 c = search needs
+
+same-length-3 : tie.Need-same-length-3 Inv-loop μ-loop
+same-length-3 c = search needs
 
 returns : tie.Need-returns Inv-loop μ-loop
 returns c = search needs
@@ -61,13 +65,16 @@ loop-less : tie.Need-loop-less Inv-loop μ-loop
 loop-less c = search needs
 
 loop-again : tie.Need-loop-again Inv-loop μ-loop
-loop-again c = (search needs, search needs)
-
-same-length-3 : tie.Need-same-length-3 Inv-loop μ-loop
-same-length-3 c = search needs
+loop-again c = (search needs, search needs, search needs)
 
 same-length-4 : tie.Need-same-length-4 Inv-loop μ-loop
 same-length-4 c = search needs
+
+same-length-5 : tie.Need-same-length-5 Inv-loop μ-loop
+same-length-5 c = search needs
+
+same-length-6 : tie.Need-same-length-6 Inv-loop μ-loop
+same-length-6 c = search needs
 
 returns-2 : tie.Need-returns-2 Inv-loop μ-loop
 returns-2 c = search needs
@@ -87,6 +94,7 @@ play-all-spec =
     command-requires
     same-length
     same-length-2
+    same-length-3
     returns
     add-next
     sub-play
@@ -95,6 +103,7 @@ play-all-spec =
     play-requires
     loop-less
     loop-again
-    same-length-3
     same-length-4
+    same-length-5
+    same-length-6
     returns-2)

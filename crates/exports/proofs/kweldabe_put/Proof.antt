@@ -25,14 +25,15 @@ put-requires c κs = search needs
 same-length : tie.Need-same-length
 same-length c = search needs
 
+same-length-2 : tie.Need-same-length-2
+same-length-2 c = search needs
+
 returns-2 : tie.Need-returns-2
 returns-2 c =
-    let at-put = c .before .before in
-    let at-if1 = at-put .before .before in
-    let same = at-if1 .before .before .load .ensures in (
-      at-put .put .ensures .0 ∙ judge-loaded same (at-if1 .if1 .left) _ _,
-      at-put .put .ensures .1 ∙ put-loaded same (at-if1 .if1 .left) _ _,
-    )
+    let put = c .before .before .before .before .put .ensures in
+    let same = c .before .before .before .before .before .before .before .before .before .load .ensures in
+    (put .0 ∙ judge-loaded same (c .before .before .before .before .before .before .before .if1 .left) _ _, put .1 ∙ put-loaded same (c .before .before .before .before .before .before .before .if1 .left) _ _)
 
 pub kweldabe-put-spec : {M : Type 1} → statement M
-kweldabe-put-spec = tie.close (tie.spec load-requires returns put-requires same-length returns-2)
+kweldabe-put-spec =
+    tie.close (tie.spec load-requires returns put-requires same-length same-length-2 returns-2)

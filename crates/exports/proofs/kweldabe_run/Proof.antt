@@ -31,12 +31,12 @@ same-length c = search needs
 same-length-2 : tie.Need-same-length-2
 same-length-2 c = search needs
 
+same-length-3 : tie.Need-same-length-3
+same-length-3 c = search needs
+
 returns-2 : tie.Need-returns-2
 returns-2 c =
-    let at-run = c .before .before .before .before .before in
-    let at-if1 = at-run .before .before .before in
-    let same = at-if1 .before .before .load .ensures in
-    run-loaded same (at-if1 .if1 .left) _ _ _ _ _ _ _ (at-run .run .ensures) (c .pack-run2 .ensures)
+    run-loaded (c .before .before .before .before .before .before .before .before .before .before .before .before .before .load .ensures) (c .before .before .before .before .before .before .before .before .before .before .before .if1 .left) _ _ _ _ _ _ _ (c .before .before .before .before .before .before .before .run .ensures) (c .pack-run2 .ensures)
 
 pub kweldabe-run-spec : {M : Type 1} → statement M
 kweldabe-run-spec =
@@ -49,4 +49,5 @@ kweldabe-run-spec =
     pack-run-requires-2
     same-length
     same-length-2
+    same-length-3
     returns-2)

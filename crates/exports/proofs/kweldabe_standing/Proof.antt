@@ -28,10 +28,7 @@ pack-standing-requires-2 c κs = search needs
 
 returns-2 : tie.Need-returns-2
 returns-2 c =
-    let at-standing = c .before .before in
-    let at-if1 = at-standing .before in
-    let same = at-if1 .before .before .load .ensures in
-    c .pack-standing2 .ensures ∙ standing-loaded same (at-if1 .if1 .left) _ _ _ (at-standing .standing .ensures)
+    c .pack-standing2 .ensures ∙ standing-loaded (c .before .before .before .before .before .load .ensures) (c .before .before .before .if1 .left) _ _ _ (c .before .before .standing .ensures)
 
 pub kweldabe-standing-spec : {M : Type 1} → statement M
 kweldabe-standing-spec =

@@ -7,6 +7,7 @@ use borrow.Author.Tests.{not-true}
 use borrow.Author.Needs.{needs}
 use Rattle.policy.specs.declared.Folder.{Folder}
 use Rattle.policy.specs.Request.{setOf}
+use Rattle.policy.specs.Levels.{levelAt}
 use Rattle.policy.specs.Tables.{personDeclared, folderDeclared}
 use Rattle.policy.proofs.Requests.{folder-below}
 use Rattle.packed.specs.Packed.{tablesOf}
@@ -19,11 +20,11 @@ are-declared-requires : tie.Need-are-declared-requires
 are-declared-requires c κs = search needs
 
 returns : tie.Need-returns
-returns c = sym (undeclared-access _ _ _ _ _ (sym (c .before .are-declared .ensures) ∙ not-true _ (c .if1 .taken)))
+returns c = sym (undeclared-access _ _ _ _ _ _ (sym (c .before .are-declared .ensures) ∙ not-true _ (c .if1 .taken)))
 
 folder-requires : tie.Need-folder-requires
 folder-requires c κs =
-    let start = c .before .before .before in
+    let start = c .before .before .before .before in
     let t = tablesOf (now (start .args .t)) in
     let are-declared = c .before .are-declared in
     let known =
@@ -46,7 +47,7 @@ access-right-requires c κs = search needs
 judge-rules-requires : tie.Need-judge-rules-requires
 judge-rules-requires c κs =
     let tested = c .before .before .before in
-    let start = tested .before .before .before in
+    let start = tested .before .before .before .before in
     let t = tablesOf (now (start .args .t)) in
     let are-declared = tested .before .are-declared in
     let known =
@@ -57,7 +58,7 @@ judge-rules-requires c κs =
 returns-2 : tie.Need-returns-2
 returns-2 c =
     let tested = c .before .before .before .before in
-    let start = tested .before .before .before in
+    let start = tested .before .before .before .before in
     let t = tablesOf (now (start .args .t)) in
     let are-declared = tested .before .are-declared in
     let known =
@@ -65,10 +66,10 @@ returns-2 c =
     (are-declared .result) (are-declared .ensures) (tested .if1 .left) in
     let writes = start .args .write in
     rw whole-part at (c .judge-rules .ensures)
-    ∙ ap (λ (n : ℕ). accessNumber t (setOf (now (start .args .h))) (start .args .s) (start .args .o) n writes)
+    ∙ ap (λ (n : ℕ). accessNumber t (setOf (now (start .args .h))) (levelAt (now (start .args .l))) (start .args .s) (start .args .o) n writes)
     (c .before .access-right .ensures
     ∙ ap (λ (e : Folder). accessRight writes (e .kind)) (c .before .before .before .folder .ensures))
-    ∙ sym (access-number _ _ (start .pre .tables) writes _ _ (known .0) (known .1))
+    ∙ sym (access-number _ _ _ (start .pre .tables) writes _ _ (known .0) (known .1))
 
 pub judge-access-spec : {M : Type 1} → statement M
 judge-access-spec =

@@ -58,7 +58,7 @@ judge-step-requires : tie.Need-judge-step-requires
 judge-step-requires c κs = search needs
 
 returns : tie.Need-returns
-returns c = sym (cut-bytes _ _ _ (holds-none _ _ (c .before .before .parse .ensures) (c .enum-told .given .1)))
+returns c = sym (cut-bytes _ _ _ _ (holds-none _ _ (c .before .before .parse .ensures) (c .enum-told .given .1)))
 
 returns-2 : tie.Need-returns-2
 returns-2 c =
@@ -66,7 +66,7 @@ returns-2 c =
     let holds =
     holds-access _ _ (c .before .before .before .before .before .before .parse .ensures) _ _ _ _ _ parsed
     (c .before .before .wide .ensures .0) (c .before .wide2 .ensures .0) in
-    c .judge-access .ensures ∙ judged-bytes _ _ _ _ holds
+    c .judge-access .ensures ∙ judged-bytes _ _ _ _ _ holds
 
 returns-3 : tie.Need-returns-3
 returns-3 c =
@@ -74,7 +74,7 @@ returns-3 c =
     let holds =
     holds-start _ _ (c .before .before .before .before .before .before .parse .ensures) _ _ _ _ parsed
     (c .before .before .wide3 .ensures .0) (c .before .wide4 .ensures .0) in
-    c .judge-start .ensures ∙ judged-bytes _ _ _ _ holds
+    c .judge-start .ensures ∙ judged-bytes _ _ _ _ _ holds
 
 returns-4 : tie.Need-returns-4
 returns-4 c =
@@ -82,7 +82,7 @@ returns-4 c =
     let holds =
     holds-step _ _ (c .before .before .before .before .before .before .before .parse .ensures) _ _ _ _ _ _ parsed
     (c .before .before .before .wide5 .ensures .0) (c .before .before .wide6 .ensures .0) (c .before .wide7 .ensures .0) in
-    c .judge-step .ensures ∙ judged-bytes _ _ _ _ holds
+    c .judge-step .ensures ∙ judged-bytes _ _ _ _ _ holds
 
 pub judge-bytes-spec : {M : Type 1} → statement M
 judge-bytes-spec =

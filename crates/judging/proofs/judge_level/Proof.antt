@@ -1,19 +1,19 @@
--- `judge_level` compares a level with the person's current level, and answers 0 or 15.
+-- `judge_level` compares a level with the person's stored level, and answers 0 or 15.
 use borrow.Author.Needs.{needs}
 use Rattle.judging.proofs.judge_level.Statement.{statement}
 use Rattle.judging.proofs.judge_level.Tie as tie
 
-current-level-requires : tie.Need-current-level-requires
-current-level-requires c κs = search needs
+entry-requires : tie.Need-entry-requires
+entry-requires c κs = search needs
 
 compare-requires : tie.Need-compare-requires
 compare-requires c κs = search needs
 
 returns : tie.Need-returns
-returns c = rw (← c .before .before .current-level .ensures, ← c .before .compare .ensures, c .if1 .taken)
+returns c = rw (← c .before .before .entry .ensures, ← c .before .compare .ensures, c .if1 .taken)
 
 returns-2 : tie.Need-returns-2
-returns-2 c = rw (← c .before .before .current-level .ensures, ← c .before .compare .ensures, c .if1 .left)
+returns-2 c = rw (← c .before .before .entry .ensures, ← c .before .compare .ensures, c .if1 .left)
 
 pub judge-level-spec : {M : Type 1} → statement M
-judge-level-spec = tie.close (tie.spec current-level-requires compare-requires returns returns-2)
+judge-level-spec = tie.close (tie.spec entry-requires compare-requires returns returns-2)

@@ -1,4 +1,4 @@
--- `judge_start` is 13 for undeclared parties, and otherwise low-water of both current levels, then roles with right 32.
+-- `judge_start` is 13 for undeclared parties, and otherwise low-water of both stored levels, then roles with right 32.
 use mathlib.Core.Path.{sym, _∙_}
 use mathlib.Core.Logic.{inr}
 use borrow.Author.Tests.{not-true, not-false}
@@ -7,6 +7,7 @@ use Rattle.bits.proofs.Booleans.{and-both}
 use Rattle.policy.specs.Tables.{personDeclared, inForce, wallRule}
 use Rattle.policy.specs.Request.{start}
 use Rattle.policy.specs.Rules.{declared}
+use Rattle.policy.proofs.Requests.{person-below}
 use Rattle.packed.specs.Packed.{tablesOf}
 use Rattle.judging.specs.Judging.{startNumber}
 use Rattle.judging.proofs.JudgingLaws.{
@@ -28,14 +29,14 @@ use Rattle.judging.proofs.are_persons.Reads as are-persons-reads
 use Rattle.judging.proofs.judge_level.Reads as judge-level-reads
 use Rattle.judging.proofs.judge_start_past.Reads as judge-start-past-reads
 use Rattle.packed.proofs.in_force.Reads as in-force-reads
-use Rattle.past.proofs.levels.current_level.Reads as current-level-reads
+use Rattle.levels.proofs.entry.Reads as entry-reads
 
 are-persons-requires : tie.Need-are-persons-requires
 are-persons-requires c κs = search needs
 
 returns : tie.Need-returns
 unfolding declared
-returns c = sym (not-declared _ _ (start _ _) (sym (c .before .are-persons .ensures) ∙ not-true _ (c .if1 .taken)))
+returns c = sym (not-declared _ _ _ (start _ _) (sym (c .before .are-persons .ensures) ∙ not-true _ (c .if1 .taken)))
 
 in-force-requires : tie.Need-in-force-requires
 in-force-requires c κs = search needs
@@ -51,7 +52,7 @@ part-judge-start-past-end c = search needs
 
 judge-start-past-requires : tie.Need-judge-start-past-requires
 judge-start-past-requires c κs =
-    let start = c .before .before .before .before .before .before in
+    let start = c .before .before .before .before .before .before .before in
     let t = tablesOf (now (start .args .t)) in
     let are-persons = c .before .before .before .before .are-persons in
     let known =
@@ -62,14 +63,14 @@ judge-start-past-requires c κs =
 returns-2 : tie.Need-returns-2
 unfolding declared
 returns-2 c =
-    let start = c .before .before .before .before .before .before .before in
+    let start = c .before .before .before .before .before .before .before .before in
     let t = tablesOf (now (start .args .t)) in
     let are-persons = c .before .before .before .before .before .are-persons in
     let known =
     known-both (personDeclared t (start .args .s)) (personDeclared t (start .args .u))
     (are-persons .result) (are-persons .ensures) (c .before .before .before .before .if1 .left) in
     rw whole-part at (c .judge-start-past .ensures)
-    ∙ sym (start-number _ _ (start .pre .tables) _ _ (and-both _ _ (known .0) (known .1)))
+    ∙ sym (start-number _ _ _ (start .pre .tables) _ _ (and-both _ _ (known .0) (known .1)))
 
 in-force-requires-2 : tie.Need-in-force-requires-2
 in-force-requires-2 c κs = search needs
@@ -77,7 +78,7 @@ in-force-requires-2 c κs = search needs
 returns-3 : tie.Need-returns-3
 unfolding declared startNumber
 returns-3 c =
-    let start = c .before .before .before .before .before .before .before in
+    let start = c .before .before .before .before .before .before .before .before in
     let t = tablesOf (now (start .args .t)) in
     let are-persons = c .before .before .before .before .before .are-persons in
     let known =
@@ -86,63 +87,42 @@ returns-3 c =
     let level-off = sym (c .before .in-force2 .ensures) ∙ not-true _ (c .if3 .taken) in
     let roles-off = sym (c .before .before .before .in-force .ensures) ∙ c .before .before .if2 .left in
     sym
-    (start-number _ _ (start .pre .tables) _ _ (and-both _ _ (known .0) (known .1))
+    (start-number _ _ _ (start .pre .tables) _ _ (and-both _ _ (known .0) (known .1))
     ∙ number-none _ _ _ _ (implies-true (inForce t wallRule)) (passes _ _ (inr level-off)) (passes _ _ (inr roles-off)))
 
-sub-judge-level : tie.Need-sub-judge-level
-sub-judge-level c = search needs
+entry-requires : tie.Need-entry-requires
+entry-requires c κs =
+    let start = c .before .before .before .before .before .before .before .before in
+    let t = tablesOf (now (start .args .t)) in
+    let are-persons = c .before .before .before .before .before .are-persons in
+    let known =
+    known-both (personDeclared t (start .args .s)) (personDeclared t (start .args .u))
+    (are-persons .result) (are-persons .ensures) (c .before .before .before .before .if1 .left) in
+    (start .pre .held, person-below _ _ (known .1))
 
-part-judge-level-start : tie.Need-part-judge-level-start
-part-judge-level-start c = search needs
-
-part-judge-level-end : tie.Need-part-judge-level-end
-part-judge-level-end c = search needs
-
-sub-current-level : tie.Need-sub-current-level
-sub-current-level c = search needs
-
-part-current-level-start : tie.Need-part-current-level-start
-part-current-level-start c = search needs
-
-part-current-level-end : tie.Need-part-current-level-end
-part-current-level-end c = search needs
-
-current-level-requires : tie.Need-current-level-requires
-current-level-requires c κs =
+judge-level-requires : tie.Need-judge-level-requires
+judge-level-requires c κs =
     let start = c .before .before .before .before .before .before .before .before .before in
+    let t = tablesOf (now (start .args .t)) in
+    let are-persons = c .before .before .before .before .before .before .are-persons in
+    let known =
+    known-both (personDeclared t (start .args .s)) (personDeclared t (start .args .u))
+    (are-persons .result) (are-persons .ensures) (c .before .before .before .before .before .if1 .left) in
+    (start .pre .held, person-below _ _ (known .0))
+
+returns-4 : tie.Need-returns-4
+unfolding declared startNumber
+returns-4 c =
+    let start = c .before .before .before .before .before .before .before .before .before .before in
     let t = tablesOf (now (start .args .t)) in
     let are-persons = c .before .before .before .before .before .before .before .are-persons in
     let known =
     known-both (personDeclared t (start .args .s)) (personDeclared t (start .args .u))
     (are-persons .result) (are-persons .ensures) (c .before .before .before .before .before .before .if1 .left) in
-    rw whole-part (start .pre .size, known .1)
-
-judge-level-requires : tie.Need-judge-level-requires
-judge-level-requires c κs =
-    let start = c .before .before .before .before .before .before .before .before .before .before in
-    let t = tablesOf (now (start .args .t)) in
-    let are-persons = c .before .before .before .before .before .before .before .before .are-persons in
-    let known =
-    known-both (personDeclared t (start .args .s)) (personDeclared t (start .args .u))
-    (are-persons .result) (are-persons .ensures) (c .before .before .before .before .before .before .before .if1 .left) in
-    rw whole-part (start .pre, known .0)
-
-returns-4 : tie.Need-returns-4
-unfolding declared startNumber
-returns-4 c =
-    let start = c .before .before .before .before .before .before .before .before .before .before .before in
-    let t = tablesOf (now (start .args .t)) in
-    let are-persons = c .before .before .before .before .before .before .before .before .before .are-persons in
-    let known =
-    known-both (personDeclared t (start .args .s)) (personDeclared t (start .args .u))
-    (are-persons .result) (are-persons .ensures) (c .before .before .before .before .before .before .before .before .if1 .left) in
-    let level-on =
-    sym (c .before .before .before .before .before .in-force2 .ensures) ∙ not-false _ (c .before .before .before .before .if3 .left) in
-    let first-test = c .before .before .before .before .before .before .before .in-force in
-    let roles-off = sym (first-test .ensures) ∙ c .before .before .before .before .before .before .if2 .left in
-    let other = rw whole-part at (c .before .current-level .ensures) in
-    rw whole-part at (c .judge-level .ensures) ∙ rw other
-    (sym (start-number _ _ (start .pre .tables) _ _ (and-both _ _ (known .0) (known .1))
+    let level-on = sym (c .before .before .before .in-force2 .ensures) ∙ not-false _ (c .before .before .if3 .left) in
+    let roles-off = sym (c .before .before .before .before .before .in-force .ensures) ∙ c .before .before .before .before .if2 .left in
+    c .judge-level .ensures ∙ rw (c .before .entry .ensures)
+    (sym (start-number _ _ _ (start .pre .tables) _ _ (and-both _ _ (known .0) (known .1))
     ∙ number-alone _ _ _ level-on roles-off))
 
 pub judge-start-spec : {M : Type 1} → statement M
@@ -159,12 +139,6 @@ judge-start-spec =
     returns-2
     in-force-requires-2
     returns-3
-    sub-judge-level
-    part-judge-level-start
-    part-judge-level-end
-    sub-current-level
-    part-current-level-start
-    part-current-level-end
-    current-level-requires
+    entry-requires
     judge-level-requires
     returns-4)

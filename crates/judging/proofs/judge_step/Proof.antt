@@ -7,6 +7,7 @@ use mathlib.Core.Bool.{true, false}
 use borrow.Author.Tests.{not-true, not-false}
 use Rattle.policy.specs.Tables.{personDeclared, folderDeclared, inForce, pipelineRule}
 use Rattle.policy.specs.Request.{step, setOf}
+use Rattle.policy.specs.Levels.{levelAt}
 use Rattle.policy.proofs.Requests.{step-declared}
 use Rattle.judging.proofs.JudgingLaws.{
   known-both,
@@ -30,7 +31,7 @@ use Rattle.packed.proofs.in_force.Reads as in-force-reads
 use Rattle.pipeline.proofs.permits.Reads as permits-reads
 
 returns : tie.Need-returns
-returns c = sym (not-declared _ _ (step _ _ _) (high-step _ _ _ _ (c .if1 .taken)))
+returns c = sym (not-declared _ _ _ (step _ _ _) (high-step _ _ _ _ (c .if1 .taken)))
 
 are-declared-requires : tie.Need-are-declared-requires
 are-declared-requires c κs = search needs
@@ -38,7 +39,7 @@ are-declared-requires c κs = search needs
 returns-2 : tie.Need-returns-2
 returns-2 c =
     sym
-    (not-declared _ _ (step _ _ _)
+    (not-declared _ _ _ (step _ _ _)
     (undeclared-step _ _ _ _ (sym (c .before .are-declared .ensures) ∙ not-true _ (c .if2 .taken))))
 
 sub-step-rules : tie.Need-sub-step-rules
@@ -52,7 +53,7 @@ part-step-rules-end c = search needs
 
 step-rules-requires : tie.Need-step-rules-requires
 step-rules-requires c κs =
-    let start = c .before .before .before .before .before in
+    let start = c .before .before .before .before .before .before in
     let t = tablesOf (now (start .args .t)) in
     let are-declared = c .before .before .are-declared in
     let known =
@@ -62,7 +63,7 @@ step-rules-requires c κs =
 
 returns-3 : tie.Need-returns-3
 returns-3 c =
-    let start = c .before .before .before .before .before .before .before in
+    let start = c .before .before .before .before .before .before .before .before in
     let t = tablesOf (now (start .args .t)) in
     let are-declared = c .before .before .before .before .are-declared in
     let known =
@@ -71,8 +72,9 @@ returns-3 c =
     let d = step-declared t (start .args .s) (start .args .p) (start .args .o) (known .0) (omega arith) (known .1) in
     let access = rw whole-part at (c .before .step-rules .ensures) in
     sym
-    (before-pipeline _ _ _ _ _ (c .before .step-rules .result) d
-    (access ∙ step-number t (setOf (now (start .args .h))) (start .pre .tables) (start .args .s) (start .args .p) (start .args .o) d)
+    (before-pipeline _ _ _ _ _ _ (c .before .step-rules .result) d
+    (access ∙ step-number t (setOf (now (start .args .h))) (levelAt (now (start .args .l))) (start .pre .tables) (start .args .s)
+    (start .args .p) (start .args .o) d)
     (c .if3 .taken))
 
 in-force-requires : tie.Need-in-force-requires
@@ -80,7 +82,7 @@ in-force-requires c κs = search needs
 
 returns-4 : tie.Need-returns-4
 returns-4 c =
-    let start = c .before .before .before .before .before .before .before .before .before in
+    let start = c .before .before .before .before .before .before .before .before .before .before in
     let t = tablesOf (now (start .args .t)) in
     let are-declared = c .before .before .before .before .before .before .are-declared in
     let known =
@@ -90,8 +92,9 @@ returns-4 c =
     let access = rw whole-part at (c .before .before .before .step-rules .ensures) in
     let off : inForce t pipelineRule ≡ false = sym (c .before .in-force .ensures) ∙ not-true _ (c .if4 .taken) in
     sym
-    (then-pipeline t (setOf (now (start .args .h))) _ _ _ d
-    (sym (step-number t (setOf (now (start .args .h))) (start .pre .tables) (start .args .s) (start .args .p) (start .args .o) d)
+    (then-pipeline t (setOf (now (start .args .h))) (levelAt (now (start .args .l))) _ _ _ d
+    (sym (step-number t (setOf (now (start .args .h))) (levelAt (now (start .args .l))) (start .pre .tables) (start .args .s)
+    (start .args .p) (start .args .o) d)
     ∙ sym access ∙ c .before .before .if3 .left)
     ∙ rw off)
 
@@ -106,7 +109,7 @@ part-permits-end c = search needs
 
 permits-requires : tie.Need-permits-requires
 permits-requires c κs =
-    let start = c .before .before .before .before .before .before .before .before .before .before in
+    let start = c .before .before .before .before .before .before .before .before .before .before .before in
     let t = tablesOf (now (start .args .t)) in
     let are-declared = c .before .before .before .before .before .before .before .are-declared in
     let known =
@@ -116,7 +119,7 @@ permits-requires c κs =
 
 returns-5 : tie.Need-returns-5
 returns-5 c =
-    let start = c .before .before .before .before .before .before .before .before .before .before .before .before in
+    let start = c .before .before .before .before .before .before .before .before .before .before .before .before .before in
     let t = tablesOf (now (start .args .t)) in
     let are-declared = c .before .before .before .before .before .before .before .before .before .are-declared in
     let known =
@@ -128,14 +131,15 @@ returns-5 c =
     let on : inForce t pipelineRule ≡ true =
     sym (c .before .before .before .before .in-force .ensures) ∙ not-false _ (c .before .before .before .if4 .left) in
     sym
-    (then-pipeline t (setOf (now (start .args .h))) _ _ _ d
-    (sym (step-number t (setOf (now (start .args .h))) (start .pre .tables) (start .args .s) (start .args .p) (start .args .o) d)
+    (then-pipeline t (setOf (now (start .args .h))) (levelAt (now (start .args .l))) _ _ _ d
+    (sym (step-number t (setOf (now (start .args .h))) (levelAt (now (start .args .l))) (start .pre .tables) (start .args .s)
+    (start .args .p) (start .args .o) d)
     ∙ sym access ∙ c .before .before .before .before .before .if3 .left)
     ∙ rw (on, ← permits, c .if5 .taken))
 
 returns-6 : tie.Need-returns-6
 returns-6 c =
-    let start = c .before .before .before .before .before .before .before .before .before .before .before .before in
+    let start = c .before .before .before .before .before .before .before .before .before .before .before .before .before in
     let t = tablesOf (now (start .args .t)) in
     let are-declared = c .before .before .before .before .before .before .before .before .before .are-declared in
     let known =
@@ -147,8 +151,9 @@ returns-6 c =
     let on : inForce t pipelineRule ≡ true =
     sym (c .before .before .before .before .in-force .ensures) ∙ not-false _ (c .before .before .before .if4 .left) in
     sym
-    (then-pipeline t (setOf (now (start .args .h))) _ _ _ d
-    (sym (step-number t (setOf (now (start .args .h))) (start .pre .tables) (start .args .s) (start .args .p) (start .args .o) d)
+    (then-pipeline t (setOf (now (start .args .h))) (levelAt (now (start .args .l))) _ _ _ d
+    (sym (step-number t (setOf (now (start .args .h))) (levelAt (now (start .args .l))) (start .pre .tables) (start .args .s)
+    (start .args .p) (start .args .o) d)
     ∙ sym access ∙ c .before .before .before .before .before .if3 .left)
     ∙ rw (on, ← permits, c .if5 .left))
 

@@ -15,7 +15,7 @@ asks-level-requires c κs = search needs
 returns : tie.Need-returns
 returns c =
     let off = sym (c .before .before .before .asks-past .ensures) ∙ not-true _ (c .before .before .if1 .taken) in
-    sym (unasked _ _ _ _ _ off _ (sym (c .before .asks-level .ensures) ∙ not-true _ (c .if2 .taken)))
+    sym (unasked _ _ _ _ _ _ off _ (sym (c .before .asks-level .ensures) ∙ not-true _ (c .if2 .taken)))
 
 add-judge-rules : tie.Need-add-judge-rules
 add-judge-rules c = search needs

@@ -1,4 +1,4 @@
--- `judge` is `judgeNumber`: what `checked` refuses gets its number, and otherwise `judging` is asked of ready tables and history.
+-- `judge` is `judgeNumber`: what `checked` refuses gets its number, and otherwise `judging` is asked of ready tables, history and levels.
 use mathlib.Core.Path.{sym, _∙_}
 use Rattle.monitor.proofs.CallLaws.{passed-ready, judge-refused, judge-ready}
 use borrow.Author.Needs.{needs}
@@ -21,16 +21,12 @@ pack-requires c κs = search needs
 
 judge-bytes-requires : tie.Need-judge-bytes-requires
 judge-bytes-requires c κs =
-    let call-checked = c .before .before .before .checked in
-    let if1 = c .before .before .if1 in
-    rw (c .before .pack .ensures) (passed-ready _ _ (sym (call-checked .ensures) ∙ if1 .left))
+    rw (c .before .pack .ensures) (passed-ready _ _ (sym (c .before .before .before .checked .ensures) ∙ c .before .before .if1 .left))
 
 returns-2 : tie.Need-returns-2
 returns-2 c =
-    let call-checked = c .before .before .before .before .checked in
-    let if1 = c .before .before .before .if1 in
     rw (c .before .before .pack .ensures) at (c .judge-bytes .ensures)
-    ∙ judge-ready _ _ _ (passed-ready _ _ (sym (call-checked .ensures) ∙ if1 .left))
+    ∙ judge-ready _ _ _ (passed-ready _ _ (sym (c .before .before .before .before .checked .ensures) ∙ c .before .before .before .if1 .left))
 
 pub judge-spec : {M : Type 1} → statement M
 judge-spec =

@@ -1,6 +1,6 @@
--- `put` is `judgeNumber` and leaves `putHistory`: nothing changes where `checked` refuses, and otherwise `running` says both.
+-- `put` is `judgeNumber` and leaves `putState`: nothing changes where `checked` refuses, and otherwise `running` says both.
 use mathlib.Core.Path.{sym, _∙_}
-use Rattle.monitor.proofs.CallLaws.{passed-ready, judge-refused, judge-ready, put-refused, put-ready}
+use Rattle.monitor.proofs.CallLaws.{passed-ready, judge-refused, put-refused}
 use borrow.Author.Needs.{needs}
 use Rattle.monitor.proofs.put.Statement.{statement}
 use Rattle.monitor.proofs.put.Tie as tie
@@ -8,13 +8,16 @@ use Rattle.monitor.proofs.put.Reads as reads
 use Rattle.monitor.proofs.put.Lts as lts
 use Rattle.monitor.proofs.checked.Reads as checked-reads
 use Rattle.packing.proofs.pack.Reads as pack-reads
-use Rattle.running.proofs.put_ready.Reads as put-ready-reads
+use Rattle.running.proofs.put_next.Reads as put-next-reads
 
 checked-requires : tie.Need-checked-requires
 checked-requires c κs = search needs
 
 same-length : tie.Need-same-length
 same-length c = search needs
+
+same-length-2 : tie.Need-same-length-2
+same-length-2 c = search needs
 
 returns : tie.Need-returns
 returns c = (
@@ -25,25 +28,20 @@ returns c = (
 pack-requires : tie.Need-pack-requires
 pack-requires c κs = search needs
 
-put-ready-requires : tie.Need-put-ready-requires
-put-ready-requires c κs =
-    let call-checked = c .before .before .before .before .checked in
-    let if1 = c .before .before .before .if1 in
-    rw (c .before .before .pack .ensures) (passed-ready _ _ (sym (call-checked .ensures) ∙ if1 .left))
+put-next-requires : tie.Need-put-next-requires
+put-next-requires c κs =
+    rw (c .before .before .before .pack .ensures) (passed-ready _ _ (sym (c .before .before .before .before .before .checked .ensures) ∙ c .before .before .before .before .if1 .left))
 
-same-length-2 : tie.Need-same-length-2
-same-length-2 c = search needs
+same-length-3 : tie.Need-same-length-3
+same-length-3 c = search needs
+
+same-length-4 : tie.Need-same-length-4
+same-length-4 c = search needs
 
 returns-2 : tie.Need-returns-2
 returns-2 c =
-    let call-checked = c .before .before .before .before .before .before .before .checked in
-    let call-if1 = c .before .before .before .before .before .before .if1 in
-    let call-put-ready = c .before .before .put-ready in
-    let answered = rw (c .before .before .before .before .before .pack .ensures) at (call-put-ready .ensures .0) in
-    let ready = passed-ready _ _ (sym (call-checked .ensures) ∙ call-if1 .left) in (
-      answered ∙ judge-ready _ _ _ ready,
-      call-put-ready .ensures .1 ∙ put-ready _ _ _ ready (call-put-ready .result) answered,
-    )
+    let turned = rw (c .before .before .before .before .before .before .before .before .pack .ensures) at (c .before .before .before .before .put-next .ensures) in
+    (turned .judgedAs, turned .left)
 
 pub put-spec : {M : Type 1} → statement M
 put-spec =
@@ -51,8 +49,10 @@ put-spec =
     (tie.spec
     checked-requires
     same-length
+    same-length-2
     returns
     pack-requires
-    put-ready-requires
-    same-length-2
+    put-next-requires
+    same-length-3
+    same-length-4
     returns-2)

@@ -1,4 +1,4 @@
--- `run` returns `ran` and leaves `runHistory` and `runAnswers`: nothing changes where `checked` refuses or answer bytes are too few, and
+-- `run` returns `ran` and leaves `runState` and `runAnswers`: nothing changes where `checked` refuses or answer bytes are too few, and
 -- otherwise `running` says all three.
 use mathlib.Core.Path.{sym, _∙_}
 use Rattle.monitor.proofs.CallLaws.{passed-ready, run-stopped, run-without-room, run-done}
@@ -22,11 +22,12 @@ no-run-requires c κs = search needs
 same-length : tie.Need-same-length
 same-length c = search needs
 
+same-length-2 : tie.Need-same-length-2
+same-length-2 c = search needs
+
 returns : tie.Need-returns
 returns c =
-    let call-checked = c .before .before .checked in
-    let if1 = c .before .if1 in
-    rw (c .no-run .ensures) (run-stopped _ _ _ _ (call-checked .result) (call-checked .ensures) (if1 .taken))
+    rw (c .no-run .ensures) (run-stopped _ _ _ _ (c .before .before .checked .result) (c .before .before .checked .ensures) (c .before .if1 .taken))
 
 answers-due-requires : tie.Need-answers-due-requires
 answers-due-requires c κs = search needs
@@ -34,46 +35,41 @@ answers-due-requires c κs = search needs
 no-run-requires-2 : tie.Need-no-run-requires-2
 no-run-requires-2 c κs = search needs
 
-same-length-2 : tie.Need-same-length-2
-same-length-2 c = search needs
-
-returns-2 : tie.Need-returns-2
-returns-2 c =
-    let call-checked = c .before .before .before .before .checked in
-    let if1 = c .before .before .before .if1 in
-    let answers-due = c .before .before .answers-due in
-    let if2 = c .before .if2 in
-    rw (c .no-run2 .ensures)
-    (run-without-room _ _ _ _ (sym (call-checked .ensures) ∙ if1 .left) (rw (← answers-due .ensures) (if2 .taken)))
-
-pack-requires : tie.Need-pack-requires
-pack-requires c κs = search needs
-
-run-ready-requires : tie.Need-run-ready-requires
-run-ready-requires c κs =
-    let call-checked = c .before .before .before .before .before .before .before .checked in
-    let if1 = c .before .before .before .before .before .before .if1 in
-    let answers-due = c .before .before .before .before .before .answers-due in
-    let if2 = c .before .before .before .before .if2 in
-    let ready = passed-ready _ _ (sym (call-checked .ensures) ∙ if1 .left) in
-    (rw (c .before .before .before .pack .ensures) ready, rw (← answers-due .ensures) (if2 .left))
-
 same-length-3 : tie.Need-same-length-3
 same-length-3 c = search needs
 
 same-length-4 : tie.Need-same-length-4
 same-length-4 c = search needs
 
+returns-2 : tie.Need-returns-2
+returns-2 c =
+    rw (c .no-run2 .ensures)
+    (run-without-room _ _ _ _ (sym (c .before .before .before .before .checked .ensures) ∙ c .before .before .before .if1 .left) (rw (← c .before .before .answers-due .ensures) (c .before .if2 .taken)))
+
+pack-requires : tie.Need-pack-requires
+pack-requires c κs = search needs
+
+run-ready-requires : tie.Need-run-ready-requires
+run-ready-requires c κs =
+    let ready = passed-ready _ _ (sym (c .before .before .before .before .before .before .before .before .checked .ensures) ∙ c .before .before .before .before .before .before .before .if1 .left) in
+    (rw (c .before .before .before .before .pack .ensures) ready, rw (← c .before .before .before .before .before .before .answers-due .ensures) (c .before .before .before .before .before .if2 .left))
+
+same-length-5 : tie.Need-same-length-5
+same-length-5 c = search needs
+
+same-length-6 : tie.Need-same-length-6
+same-length-6 c = search needs
+
+same-length-7 : tie.Need-same-length-7
+same-length-7 c = search needs
+
 returns-3 : tie.Need-returns-3
 returns-3 c =
-    let run-ready = c .before .before .before .before .run-ready in
-    let call-checked = c .before .before .before .before .before .before .before .before .before .before .before .before .checked in
-    let if1 = c .before .before .before .before .before .before .before .before .before .before .before .if1 in
-    let answers-due = c .before .before .before .before .before .before .before .before .before .before .answers-due in
-    let if2 = c .before .before .before .before .before .before .before .before .before .if2 in
-    let done = rw (c .before .before .before .before .before .before .before .before .pack .ensures) at (run-ready .ensures) in
-    run-done _ _ _ _ (sym (call-checked .ensures) ∙ if1 .left) (rw (← answers-due .ensures) (if2 .left)) _ _ _ _
-    (done .granted) (done .refused) (done .history) (done .answers)
+    let tested = c .before .before .before .before .before .before .before .before .before .before .before .before in
+    let done = rw (c .before .before .before .before .before .before .before .before .before .before .before .pack .ensures) at (c .before .before .before .before .before .before .run-ready .ensures) in
+    run-done _ _ _ _ (sym (tested .before .before .before .checked .ensures) ∙ tested .before .before .if1 .left)
+    (rw (← tested .before .answers-due .ensures) (tested .if2 .left)) _ _ _ _
+    (done .granted) (done .refused) (done .left) (done .answers)
 
 pub run-spec : {M : Type 1} → statement M
 run-spec =
@@ -82,13 +78,16 @@ run-spec =
     checked-requires
     no-run-requires
     same-length
+    same-length-2
     returns
     answers-due-requires
     no-run-requires-2
-    same-length-2
+    same-length-3
+    same-length-4
     returns-2
     pack-requires
     run-ready-requires
-    same-length-3
-    same-length-4
+    same-length-5
+    same-length-6
+    same-length-7
     returns-3)

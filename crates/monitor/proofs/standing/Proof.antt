@@ -1,11 +1,11 @@
--- `standing` is the definition's: what `checked` refuses, then 13, then the level and the ones of the two sets of what the
--- person did.
+-- `standing` is the definition's: what `checked` refuses, then 13, then the stored level and the ones of the two sets of what the person
+-- did.
 use denote.Ref.{now}
 use mathlib.Core.Path.{sym, ap, _∙_}
 use borrow.Author.Tests.{not-true, not-false}
 use Rattle.policy.specs.Tables.{personDeclared}
 use Rattle.policy.specs.Request.{setOf}
-use Rattle.policy.specs.Rules.{currentLevel}
+use Rattle.policy.specs.Levels.{levelAt}
 use Rattle.policy.proofs.Requests.{person-below}
 use Rattle.past.specs.Past.{pastOf}
 use Rattle.monitor.proofs.CallLaws.{passed-ready, standing-refused, standing-undeclared, standing-is}
@@ -15,12 +15,12 @@ use Rattle.monitor.proofs.standing.Tie as tie
 use Rattle.monitor.proofs.standing.Reads as reads
 use Rattle.monitor.proofs.standing.Lts as lts
 use Rattle.bits.proofs.count64.Reads as count64-reads
+use Rattle.bits.proofs.wide.Reads as wide-reads
+use Rattle.levels.proofs.entry.Reads as entry-reads
 use Rattle.monitor.proofs.checked.Reads as checked-reads
 use Rattle.monitor.proofs.no_standing.Reads as no-standing-reads
-use Rattle.bits.proofs.wide.Reads as wide-reads
 use Rattle.packed.proofs.is_person.Reads as is-person-reads
 use Rattle.packing.proofs.pack.Reads as pack-reads
-use Rattle.past.proofs.levels.level_with.Reads as level-with-reads
 use Rattle.past.proofs.past_of.Reads as past-of-reads
 use Rattle.past.proofs.steps.stepped_by.Reads as stepped-by-reads
 
@@ -32,9 +32,8 @@ no-standing-requires c κs = search needs
 
 returns : tie.Need-returns
 returns c =
-    let call-checked = c .before .before .checked in
-    let if1 = c .before .if1 in
-    c .no-standing .ensures ∙ standing-refused _ _ _ (call-checked .result) (call-checked .ensures) (if1 .taken)
+    c .no-standing .ensures
+    ∙ standing-refused _ _ _ (c .before .before .checked .result) (c .before .before .checked .ensures) (c .before .if1 .taken)
 
 pack-requires : tie.Need-pack-requires
 pack-requires c κs = search needs
@@ -50,42 +49,30 @@ no-standing-requires-2 c κs = search needs
 
 returns-2 : tie.Need-returns-2
 returns-2 c =
-    let start = c .before .before .before .before .before .before .before .before .before in
-    let call-checked = c .before .before .before .before .before .before .before .checked in
-    let if1 = c .before .before .before .before .before .before .if1 in
-    let call-wide = c .before .before .before .before .wide in
+    let start = c .before .before .before .before .before .before .before .before .before .before in
     let is-person = rw (c .before .before .before .before .before .pack .ensures) at (c .before .before .is-person .ensures) in
-    let if2 = c .before .if2 in
     c .no-standing2 .ensures
-    ∙ standing-undeclared _ _ _ (sym (call-checked .ensures) ∙ if1 .left)
-    (ap (personDeclared (start .args .t)) (sym (call-wide .ensures .0)) ∙ sym is-person ∙ not-true _ (if2 .taken))
+    ∙ standing-undeclared _ _ _ (sym (c .before .before .before .before .before .before .before .checked .ensures) ∙ c .before .before .before .before .before .before .if1 .left)
+    (ap (personDeclared (start .args .t)) (sym (c .before .before .before .before .wide .ensures .0)) ∙ sym is-person ∙ not-true _ (c .before .if2 .taken))
 
 stepped-by-requires : tie.Need-stepped-by-requires
 stepped-by-requires c κs =
-    let call-checked = c .before .before .before .before .before .before .checked in
-    let ready = passed-ready _ _ (sym (call-checked .ensures) ∙ c .before .before .before .before .before .if1 .left) in
-    (ready .size, person-below _ _ (sym (c .before .is-person .ensures) ∙ not-false _ (c .if2 .left)))
+    let ready = passed-ready _ _ (sym (c .before .before .before .before .before .before .before .checked .ensures) ∙ c .before .before .before .before .before .before .if1 .left) in
+    (ready .size, person-below _ _ (sym (c .before .before .is-person .ensures) ∙ not-false _ (c .before .if2 .left)))
 
 past-of-requires : tie.Need-past-of-requires
 past-of-requires c κs =
-    let tested = c .before .before in
-    let packs = tested .before .before .before .before in
-    let ready = passed-ready _ _ (sym (packs .before .before .checked .ensures) ∙ packs .before .if1 .left) in (
+    let ready = passed-ready _ _ (sym (c .before .before .before .before .before .before .before .before .checked .ensures) ∙ c .before .before .before .before .before .before .before .if1 .left) in (
       ready .size,
-      rw (packs .pack .ensures) (ready .tables),
-      sym (tested .before .is-person .ensures) ∙ not-false _ (tested .if2 .left),
-      c .before .stepped-by .ensures,
+      rw (c .before .before .before .before .before .before .pack .ensures) (ready .tables),
+      sym (c .before .before .before .is-person .ensures) ∙ not-false _ (c .before .before .if2 .left),
+      c .stepped-by .ensures,
     )
 
-level-with-requires : tie.Need-level-with-requires
-level-with-requires c κs =
-    let tested = c .before .before .before .before in
-    let packs = tested .before .before .before .before in
-    let ready = passed-ready _ _ (sym (packs .before .before .checked .ensures) ∙ packs .before .if1 .left) in (
-      ready .size,
-      sym (tested .before .is-person .ensures) ∙ not-false _ (tested .if2 .left),
-      c .before .before .before .stepped-by .ensures,
-    )
+entry-requires : tie.Need-entry-requires
+entry-requires c κs =
+    let ready = passed-ready _ _ (sym (c .before .before .before .before .before .before .before .before .before .checked .ensures) ∙ c .before .before .before .before .before .before .before .before .if1 .left) in
+    (ready .held, person-below _ _ (sym (c .before .before .before .before .is-person .ensures) ∙ not-false _ (c .before .before .before .if2 .left)))
 
 count64-requires : tie.Need-count64-requires
 count64-requires c κs = search needs
@@ -95,20 +82,18 @@ count64-requires-2 c κs = search needs
 
 returns-3 : tie.Need-returns-3
 returns-3 c =
-    let gathered = c .before .before .before .before in
-    let tested = gathered .before .before .before in
-    let packs = tested .before .before .before .before in
-    let start = packs .before .before .before .before in
+    let tested = c .before .before .before .before .before .before in
+    let packs = c .before .before .before .before .before .before .before .before .before .before in
+    let start = c .before .before .before .before .before .before .before .before .before .before .before .before .before .before .before in
     let t = start .args .t in
-    let H = setOf (now (start .args .h)) in
     let own = tested .before .before .before .wide .ensures .0 in
     let packed = packs .pack .ensures in
     let is-person = rw packed at (tested .before .is-person .ensures) in
     standing-is _ _ _ (sym (packs .before .before .checked .ensures) ∙ packs .before .if1 .left)
     (ap (personDeclared t) (sym own) ∙ sym is-person ∙ not-false _ (tested .if2 .left))
-    (gathered .past-of .result) (c .before .before .level-with .result .0) (c .before .count64 .result) (c .count642 .result)
-    (rw packed at (gathered .past-of .ensures) ∙ ap (pastOf t H) own)
-    (rw packed at (c .before .before .level-with .ensures) ∙ ap (currentLevel t H) own)
+    (c .before .before .before .past-of .result) (c .before .before .entry .result .0) (c .before .count64 .result) (c .count642 .result)
+    (rw packed at (c .before .before .before .past-of .ensures) ∙ ap (pastOf t (setOf (now (start .args .h)))) own)
+    (c .before .before .entry .ensures ∙ ap (levelAt (now (start .args .l))) own)
     (c .before .count64 .ensures) (c .count642 .ensures)
 
 pub standing-spec : {M : Type 1} → statement M
@@ -125,7 +110,7 @@ standing-spec =
     returns-2
     stepped-by-requires
     past-of-requires
-    level-with-requires
+    entry-requires
     count64-requires
     count64-requires-2
     returns-3)

@@ -1,4 +1,4 @@
--- `level_passes` compares the folder's level with the person's current level, and is true where low-water does not ask.
+-- `level_passes` compares the folder's level with the person's stored level, and is true where low-water does not ask.
 use mathlib.Core.Path.{_≡_, sym, _∙_}
 use mathlib.Core.Bool.{Bool, true, false, false≢true}
 use Prim.Native.Nat.{ℕ}
@@ -8,7 +8,7 @@ use Rattle.level.specs.Levels.{atMost}
 use Rattle.policy.specs.declared.Folder.{Folder}
 use Rattle.policy.specs.declared.Tables.{Tables}
 use Rattle.policy.specs.Tables.{folderAt, inForce, lowWaterRule}
-use Rattle.policy.proofs.Requests.{folder-below}
+use Rattle.policy.proofs.Requests.{person-below, folder-below}
 use Rattle.judging.specs.Judging.{asksLevel, levelPasses}
 use Rattle.judging.proofs.JudgingLaws.{implies-true}
 use Rattle.judging.proofs.passing.level_passes.Statement.{statement}
@@ -37,8 +37,10 @@ returns c = not-asked _ _ _ _ (sym (c .before .asks-level .ensures) ∙ not-true
 folder-requires : tie.Need-folder-requires
 folder-requires c κs = folder-below _ _ (c .before .before .before .pre .2)
 
-level-with-requires : tie.Need-level-with-requires
-level-with-requires c κs = search needs
+entry-requires : tie.Need-entry-requires
+entry-requires c κs =
+    let start = c .before .before .before .before .before in
+    (start .pre .0, person-below _ _ (start .pre .1))
 
 compare-requires : tie.Need-compare-requires
 compare-requires c κs = search needs
@@ -47,7 +49,7 @@ returns-2 : tie.Need-returns-2
 returns-2 c =
     let asks = c .before .before .before .before in
     asked-of _ _ _ _ (sym (asks .before .asks-level .ensures) ∙ not-false _ (asks .if1 .left)) (c .before .before .before .folder .ensures)
-    (c .before .level-with .ensures) (c .compare .ensures)
+    (c .before .entry .ensures) (c .compare .ensures)
 
 pub level-passes-spec : {M : Type 1} → statement M
 level-passes-spec =
@@ -56,6 +58,6 @@ level-passes-spec =
     asks-level-requires
     returns
     folder-requires
-    level-with-requires
+    entry-requires
     compare-requires
     returns-2)
