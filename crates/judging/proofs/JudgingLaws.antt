@@ -222,8 +222,8 @@ module _ (t : Tables) (H : Request → Bool) (levels : ℕ → ℕ) where
         (roles-by t H s ok (step s p o) d refl)
 
 -- an access that no rule in force asks about
-pub unasked-access : (t : Tables) (H : Request → Bool) (levels : ℕ → ℕ) (writes : Bool) (s o : ℕ) → given t ≡ true → isUnasked t s o writes ≡ true
-    → judged t H levels (accessBy writes s o) ≡ 0
+pub unasked-access : (t : Tables) (H : Request → Bool) (levels : ℕ → ℕ) (writes : Bool) (s o : ℕ) → given t ≡ true
+    → isUnasked t s o writes ≡ true → judged t H levels (accessBy writes s o) ≡ 0
 unfolding isUnasked
 unasked-access t H levels writes s o ok test =
     let unasked-by = and-left _ _ test in
@@ -234,8 +234,8 @@ unasked-access t H levels writes s o ok test =
 -- ---- the request at the front of some bytes
 
 -- an access of undeclared parties
-pub undeclared-access : (t : Tables) (H : Request → Bool) (levels : ℕ → ℕ) (writes : Bool) (s o : ℕ) → personDeclared t s && folderDeclared t o ≡ false
-    → judged t H levels (accessBy writes s o) ≡ 13
+pub undeclared-access : (t : Tables) (H : Request → Bool) (levels : ℕ → ℕ) (writes : Bool) (s o : ℕ)
+    → personDeclared t s && folderDeclared t o ≡ false → judged t H levels (accessBy writes s o) ≡ 13
 unfolding accessBy declared
 undeclared-access t H levels true s o n = not-declared t H levels (write s o) n
 undeclared-access t H levels false s o n = not-declared t H levels (read s o) n

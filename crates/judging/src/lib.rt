@@ -165,7 +165,8 @@ fn are_persons(t: &Words, s: usize, u: usize) -> bool
 // Low-water and roles for a start of person u by person s.
 fn judge_start_past(t: &Words, h: &[u8], l: &[u8], s: usize, u: usize) -> u8
     requires { ⌜
-        Ready (tablesOf (now t)) (now h) (now l) × (personDeclared (tablesOf (now t)) s ≡ true) × (personDeclared (tablesOf (now t)) u ≡ true)
+        Ready (tablesOf (now t)) (now h) (now l) × (personDeclared (tablesOf (now t)) s ≡ true)
+        × (personDeclared (tablesOf (now t)) u ≡ true)
         ⌝ }
     ensures { λ r. ⌜ r ≡ startNumber (tablesOf (now (t .entry))) (setOf (now (h .entry))) (levelAt (now (l .entry))) s u ⌝ }
 {

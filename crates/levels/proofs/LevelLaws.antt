@@ -1,6 +1,6 @@
 -- The first levels of the persons below a number, stored one after another: one person more is one entry more, and of all 64 they are the
 -- first levels of the definitions.
-use Prim.Native.Nat.{ℕ, suc, _+_, _<_}
+use Prim.Native.Nat.{ℕ, _+_, _<_}
 use native.Mathlib.Numerals.{add-one}
 use mathlib.Core.Path.{_≡_, refl}
 use mathlib.Core.Bool.{cond}

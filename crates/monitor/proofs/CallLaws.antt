@@ -1,5 +1,5 @@
--- The checks that every call on tables, a history and levels starts with, and what a call returns once they pass or refuse. A check that refuses
--- gives its number whatever follows it, and checks that permit leave the number to those after them.
+-- The checks that every call on tables, a history and levels starts with, and what a call returns once they pass or refuse. A check that
+-- refuses gives its number whatever follows it, and checks that permit leave the number to those after them.
 use Prim.Native.Nat.{ℕ, _+_, _≤_, _<_}
 use mathlib.Core.Path.{_≡_, refl, sym, ap, ap₂, _∙_}
 use mathlib.Core.Logic.{_≢_, ⊎-elim}
@@ -160,8 +160,9 @@ module _ (t : Tables) (a : State) (requests answers : List ℕ) where
       → RunIs t a requests answers (noRun 18) a answers
   run-without-room z l = refused-run 18 (run-few z l) (omega arith)
 
-  pub run-done : ladder (callChecks t a) ≡ 0 → answersDue requests ≤ length answers → (granted refused : ℕ) (after : State) (answered : List ℕ)
-      → granted ≡ grantedIn (putNumbers t a (callsOf requests)) → refused ≡ refusedIn (putNumbers t a (callsOf requests))
+  pub run-done : ladder (callChecks t a) ≡ 0 → answersDue requests ≤ length answers
+      → (granted refused : ℕ) (after : State) (answered : List ℕ) → granted ≡ grantedIn (putNumbers t a (callsOf requests))
+      → refused ≡ refusedIn (putNumbers t a (callsOf requests))
       → after ≡ putStates t a (callsOf requests)
       → answered ≡ putNumbers t a (callsOf requests) ++ drop (answersDue requests) answers
       → RunIs t a requests answers (record { number = 0; granted = granted; refused = refused }) after answered

@@ -1,5 +1,5 @@
-// The calls of the access monitor (document 01, "Requests and calls", and document 02). Each ends, on every input, in a published number; a call whose
-// own number is not 0 changes no byte lent to it.
+// The calls of the access monitor (document 01, "Requests and calls", and document 02). Each ends, on every input, in a published number; a
+// call whose own number is not 0 changes no byte lent to it.
 ghost use mathlib.Core.Path.{_≡_};
 ghost use Prim.Native.Nat.{_<_};
 ghost use Rattle.policy.specs.Rulebook.{loadBook};

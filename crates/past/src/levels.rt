@@ -1,6 +1,6 @@
 // A person's current level from a history (document 01, "Levels", and document 02, Point 2): the meet of the first level and the levels of
-// all folders that the person has read or stepped on. The calls take the level held ready (document 02, Point 4, crate `levels`) and go over
-// no history for it; the timed test calls the part of the reads, and a later call will test stored levels against these.
+// all folders that the person has read or stepped on. The calls take the level held ready (document 02, Point 4, crate `levels`) and go
+// over no history for it; the timed test calls the part of the reads, and a later call will test stored levels against these.
 ghost use mathlib.Core.Path.{_≡_};
 ghost use mathlib.Core.Bool.{true};
 ghost use Prim.Native.Nat.{_+_, _≤_, _<_};

@@ -1,6 +1,6 @@
 -- The agreement, for every rulebook that loads and any two lists of put calls from blank. Its parts are shown elsewhere: tables in Loads,
--- numbers, histories, levels and future in Histories, the order of steps in StepOrder, reorderings in Reordering. Here they are put together:
--- the granted requests of a list, newest first, are those of its calls answered 0 the other way round.
+-- numbers, histories, levels and future in Histories, the order of steps in StepOrder, reorderings in Reordering. Here they are put
+-- together: the granted requests of a list, newest first, are those of its calls answered 0 the other way round.
 use Prim.Native.Nat.{ℕ}
 use native.Mathlib.Nat.{ℕ-set}
 use mathlib.Core.Path.{_≡_, refl, sym, ap, _∙_}
@@ -31,7 +31,6 @@ use Rattle.policy.specs.Rulebook.{given, loadBook}
 use Rattle.policy.specs.Request.{Request, read, write, start, step, setOf, member}
 use Rattle.policy.specs.Levels.{levelAt}
 use Rattle.policy.specs.Calls.{State, putStates}
-use Rattle.policy.specs.Published.{Observed}
 use Rattle.policy.specs.Held.{HoldsCurrent, HoldsZero}
 use Rattle.policy.specs.Agreement.{FromBlank, granted, SameSet, Done, stepsOn, Throughout, Claim}
 use Rattle.policy.specs.Ways.{Way, Enables}

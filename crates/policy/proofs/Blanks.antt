@@ -1,9 +1,10 @@
--- A blank that answers 0 leaves 18,944 bytes, all zero, and 128 bytes of levels: the first ones, and zero for the undeclared. Any two buffers of these lengths can be blanked with a load's tables, so there are lists from blank.
+-- A blank that answers 0 leaves 18,944 bytes, all zero, and 128 bytes of levels: the first ones, and zero for the undeclared. Any two
+-- buffers of these lengths can be blanked with a load's tables, so there are lists from blank.
 use Prim.Native.Nat.{ℕ, zero, suc, _<_}
 use mathlib.Core.Path.{_≡_, refl, ap, _∙_}
 use mathlib.Core.Logic.{⊎-elim}
 use mathlib.Core.Bool.{true, false}
-use mathlib.Core.List.{List, List·Memᴰ, List·Memᴰ·not-nil, List·Memᴰ·cases-cons}
+use mathlib.Core.List.{List·Memᴰ, List·Memᴰ·not-nil, List·Memᴰ·cases-cons}
 use lib.ListN.{length}
 use borrow.Author.Tests.{eqb-true, eq-eqb}
 use Rattle.bits.proofs.Booleans.{false-intro}

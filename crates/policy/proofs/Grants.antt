@@ -27,7 +27,8 @@ use Rattle.policy.proofs.Fronts.{front-request, parties-declared}
 use Rattle.policy.proofs.Books.{gives}
 
 -- the checks pass exactly where every rule in force permits
-module _ (t : Tables) (H : Request → Bool) (levels : ℕ → ℕ) (r : Request) (LowWater : Type 0) (level : (lowWater t levels r ≡ true) ↔ LowWater)
+module _ (t : Tables) (H : Request → Bool) (levels : ℕ → ℕ) (r : Request) (LowWater : Type 0)
+    (level : (lowWater t levels r ≡ true) ↔ LowWater)
   where
     permitted-passed : declared t r ≡ true → Permitted t H LowWater r → Passed t H levels r
     unfolding inForce
@@ -50,7 +51,8 @@ module _ (t : Tables) (H : Request → Bool) (levels : ℕ → ℕ) (r : Request
           pipeline = λ on. pipeline-published t H r .0 (implies-elim _ _ (p .piped) on);
         }
 
-    pub granted-exactly : (n : ℕ) → n ≡ ladder (requestChecks t H levels (some r)) → declared t r ≡ true → (n ≡ 0) ↔ Permitted t H LowWater r
+    pub granted-exactly : (n : ℕ) → n ≡ ladder (requestChecks t H levels (some r)) → declared t r ≡ true
+        → (n ≡ 0) ↔ Permitted t H LowWater r
     granted-exactly n same known = (
       λ e. passed-permitted (checks-passed t H levels r (sym same ∙ e)),
       λ p. same ∙ passed-checks t H levels r (permitted-passed known p),

@@ -1,10 +1,9 @@
--- A standing's level is the stored one, and its counts are those of the rights used and the firms opened: a bounded search finds exactly the
--- requests of the person, and on tables that a load gives every right and every firm is below 64.
+-- A standing's level is the stored one, and its counts are those of the rights used and the firms opened: a bounded search finds exactly
+-- the requests of the person, and on tables that a load gives every right and every firm is below 64.
 use Prim.Native.Nat.{ℕ, _<_}
 use native.Mathlib.Omega.{arith}
 use mathlib.Core.Path.{_≡_, refl, sym, _∙_}
 use mathlib.Core.Bool.{Bool, true, _&&_}
-use mathlib.Core.List.{List}
 use lib.Dec.{eqb}
 use borrow.Author.Tests.{eqb-true, eq-eqb}
 use Rattle.bits.proofs.Booleans.{and-left, and-right, and-both}

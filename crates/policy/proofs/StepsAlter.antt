@@ -1,7 +1,6 @@
 -- A step needs of the levels what a write needs, and lowers its person as a read does. Up to low-water a step and a write of one folder
 -- pass the same checks; and a granted put adds its request to the set, so the levels of standing are met with its folder or stay.
 use Prim.Native.Nat.{ℕ, _≤_}
-use native.Mathlib.Omega.{arith}
 use mathlib.Core.Path.{_≡_, refl, sym, ap, ap₂, _∙_}
 use mathlib.Core.Logic.{_⊎_, inl, inr, ⊎-elim, _↔_, _≢_}
 use mathlib.Core.Bool.{Bool, true, false, cond, _&&_, and-true, false≢true}
@@ -9,7 +8,7 @@ use mathlib.Core.List.{List, _++_}
 use mathlib.Core.Option.{Option, none, some}
 use lib.Dec.{eqb}
 use lib.ListN.{length}
-use borrow.Author.Tests.{eqb-true, eqb-false, eq-eqb, le-leb}
+use borrow.Author.Tests.{eqb-true, eqb-false, le-leb}
 use Rattle.bits.specs.Bounded.{_implies_}
 use Rattle.bits.proofs.Booleans.{and-left, and-right, implies-elim, false-elim, decide}
 use Rattle.level.specs.Levels.{atMost, meetOf}
@@ -20,7 +19,7 @@ use Rattle.policy.specs.Rulebook.{given}
 use Rattle.policy.specs.History.{historyBytes, zeros}
 use Rattle.policy.specs.Request.{Request, read, write, start, step, requestOf, setOf}
 use Rattle.policy.specs.Levels.{levelsBytes, levelAt}
-use Rattle.policy.specs.Rules.{declared, wall, currentLevel, mayModify, lowWater}
+use Rattle.policy.specs.Rules.{declared, wall, mayModify, lowWater}
 use Rattle.policy.specs.Calls.{
   State,
   blankNumber,
@@ -172,7 +171,8 @@ level-by : (t : Tables) (a : State) (s : ℕ)
 unfolding standing
 level-by t a s = ⊎-elim (λ e. rw e) (λ e. rw e) (decide (eqb (standingNumber t a s) 0))
 
-module _ (t : Tables) (a : State) (bytes : List ℕ) (r : Request) (is : requestOf bytes ≡ some r) (e : judgeNumber t a bytes ≡ 0) (s : ℕ) where
+module _ (t : Tables) (a : State) (bytes : List ℕ) (r : Request) (is : requestOf bytes ≡ some r) (e : judgeNumber t a bytes ≡ 0)
+    (s : ℕ) where
   number-after : standingNumber t (putState t a bytes) s ≡ standingNumber t a s
   number-after =
       rw (put-state t a bytes r is e)
@@ -184,7 +184,8 @@ module _ (t : Tables) (a : State) (bytes : List ℕ) (r : Request) (is : request
       let before = granted-before t a bytes r is e in
       let zero-before = standing-zero t a s before person in
       let held = eqb-true (length (a .levels)) levelsBytes (before .held) in
-      rw (standing-level t a s zero-before, standing-level t (putState t a bytes) s (number-after ∙ zero-before), put-state t a bytes r is e)
+      let zero-after = number-after ∙ zero-before in
+      rw (standing-level t a s zero-before, standing-level t (putState t a bytes) s zero-after, put-state t a bytes r is e)
       (lowered-own t (a .levels) r s o held (person-below t s person) own)
 
   -- a request that is no read and no step of the person

@@ -1,5 +1,5 @@
--- Document 01's table of causes, with document 02's. A row is a number and its cause, as a type; the rows of a call stand in the order of its checks. What is
--- said here is written from the table and the text, and not from the definitions of the calls.
+-- Document 01's table of causes, with document 02's numbers. A row is a number and its cause, as a type; the rows of a call stand in the
+-- order of its checks. What is said here is written from the table and the text, and not from the definitions of the calls.
 use Prim.Native.Nat.{ℕ, _≤_, _<_}
 use mathlib.Core.Path.{_≡_}
 use mathlib.Core.Logic.{_⊎_, _≢_}

@@ -110,8 +110,8 @@ pub record MarkedCases : Type 0 where
   pub P9-other : wallAnswer (loadBook printedBook .tables) (member (read 0 0 ∷ read 0 1 ∷ [])) (read 0 1) ≡ 0
   pub P10 : played (bookWith (3 ∷ 0 ∷ 3 ∷ 0 ∷ 1 ∷ 0 ∷ 3 ∷ 0 ∷ []) ++ 19 ∷ 1 ∷ 2 ∷ 2 ∷ []) ≡ 16 ∷ []
   pub steps : played (stepsBook ++ stepsRequests) ≡ 0 ∷ 15 ∷ 15 ∷ 0 ∷ []
-  -- Point 4, with the book of Point 2 and an entry for person 0: a step on folder 1, and then a read of folder 2, lowers 0x2003 to 0x1001 and
-  -- to 0x1000; a write does not; and a write in folder 0 is judged by the entry, whatever was done
+  -- Point 4, with the book of Point 2 and an entry for person 0: a step on folder 1, and then a read of folder 2, lowers 0x2003 to 0x1001
+  -- and to 0x1000; a write does not; and a write in folder 0 is judged by the entry, whatever was done
   pub held-step : lowered (loadBook stepsBook .tables) (3 ∷ 32 ∷ []) (step 0 5 1) ≡ 1 ∷ 16 ∷ []
   pub held-read : lowered (loadBook stepsBook .tables) (1 ∷ 16 ∷ []) (read 0 2) ≡ 0 ∷ 16 ∷ []
   pub held-write : lowered (loadBook stepsBook .tables) (3 ∷ 32 ∷ []) (write 0 1) ≡ 3 ∷ 32 ∷ []

@@ -1,10 +1,10 @@
--- The request that a parsed record is, the index of its bit, and how far on the next record stands.
+-- The request that a parsed record is, and how far on the next record stands.
 use Prim.Native.Nat.{ℕ}
 use mathlib.Core.Bool.{Bool, cond}
 use mathlib.Core.List.{List}
 use mathlib.Core.Option.{Option, none, some}
 use lib.ListN.{length}
-use Rattle.policy.specs.Request.{Request, read, write, start, step, index, requestOf, recordLength}
+use Rattle.policy.specs.Request.{Request, read, write, start, step, requestOf, recordLength}
 use Rattle.request.specs.declared.Parsed.{Parsed}
 use Rattle.request.specs.declared.Parsed.the-variants.{Nothing, Access, Start, Step}
 
@@ -17,11 +17,6 @@ asRequest Nothing = none
 asRequest (Access writes s o) = some (accessBy writes s o)
 asRequest (Start s u) = some (start s u)
 asRequest (Step s p o) = some (step s p o)
-
--- the index of a request's bit in a history; 0 for none
-unfoldable pub indexOf : Option Request → ℕ
-indexOf none = 0
-indexOf (some r) = index r
 
 -- how far on the next record stands, with so many bytes left: by the length of the first, or by all of them where it is unknown or cut
 unfoldable pub nextAfter : Option Request → ℕ → ℕ

@@ -3,7 +3,7 @@ ghost use mathlib.Core.Path.{_≡_};
 ghost use Prim.Native.Nat.{_<_};
 ghost use lib.ListN.{drop};
 ghost use Rattle.policy.specs.Request.{requestOf, start, step, index, three};
-ghost use Rattle.request.specs.Parsed.{accessBy, asRequest, indexOf, nextRecord};
+ghost use Rattle.request.specs.Parsed.{accessBy, asRequest, nextRecord};
 
 // A request with its fields, or none: the kind is unknown or the record is cut. An access is a write or a read.
 pub enum Parsed {
@@ -95,24 +95,4 @@ pub fn step_index(s: usize, p: usize, o: usize) -> usize
     ensures { λ r. ⌜ r ≡ index (step s p o) ⌝ }
 {
     20480 + 64 * (16 * o + p) + s
-}
-
-// The index of the request's bit in a history; 0 for none.
-pub fn request_index(r: Parsed) -> usize
-    ensures { λ n. ⌜ n ≡ indexOf (asRequest r) ⌝ }
-{
-    match r {
-        Parsed::Nothing => 0,
-        Parsed::Access {
-            write,
-            person,
-            folder,
-        } => access_index(write, bits::wide(person), bits::wide(folder)),
-        Parsed::Start { person, second } => start_index(bits::wide(person), bits::wide(second)),
-        Parsed::Step {
-            person,
-            step,
-            folder,
-        } => step_index(bits::wide(person), bits::wide(step), bits::wide(folder)),
-    }
 }

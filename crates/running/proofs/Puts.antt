@@ -5,8 +5,7 @@ use mathlib.Core.Path.{_≡_, refl, sym, ap₂, _∙_}
 use mathlib.Core.Logic.{_≢_}
 use mathlib.Core.Bool.{Bool, true, false}
 use mathlib.Core.List.{List}
-use mathlib.Core.Option.{Option, none, some}
-use lib.Dec.{eqb}
+use mathlib.Core.Option.{none, some}
 use lib.ListN.{length}
 use borrow.Author.Tests.{ne-eqb}
 use Rattle.bits.proofs.Booleans.{and-left, and-right}
@@ -78,7 +77,8 @@ step-lowers t l s p o = refl
 -- ---- the request at the front of some bytes
 
 module _ (t : Tables) (h l bytes : List ℕ) (ready : Ready t h l) where
-  whole-number : {n : ℕ} (r : Request) → requestOf bytes ≡ some r → n ≡ judged t (setOf h) (levelAt l) r → n ≡ judgeNumber t (state h l) bytes
+  whole-number : {n : ℕ} (r : Request) → requestOf bytes ≡ some r → n ≡ judged t (setOf h) (levelAt l) r
+      → n ≡ judgeNumber t (state h l) bytes
   whole-number r holds e =
       e ∙ judged-bytes t (setOf h) (levelAt l) bytes r holds
       ∙ sym (judge-with t (state h l) bytes (ready .tables) (record { size = ready .size; held = ready .held }))

@@ -25,7 +25,10 @@ same-length-2 : tie.Need-same-length-2
 same-length-2 c = search needs
 
 returns-2 : tie.Need-returns-2
-returns-2 c = blank-loaded (c .before .before .before .before .before .before .before .before .before .load .ensures) (c .before .before .before .before .before .before .before .if1 .left) _ _ _ (c .before .before .before .before .blank .ensures)
+returns-2 c =
+    let blanked = c .before .before .before .before in
+    let tested = blanked .before .before .before in
+    blank-loaded (tested .before .before .load .ensures) (tested .if1 .left) _ _ _ (blanked .blank .ensures)
 
 pub kweldabe-blank-spec : {M : Type 1} → statement M
 kweldabe-blank-spec =

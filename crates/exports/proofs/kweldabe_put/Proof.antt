@@ -30,9 +30,12 @@ same-length-2 c = search needs
 
 returns-2 : tie.Need-returns-2
 returns-2 c =
-    let put = c .before .before .before .before .put .ensures in
-    let same = c .before .before .before .before .before .before .before .before .before .load .ensures in
-    (put .0 ∙ judge-loaded same (c .before .before .before .before .before .before .before .if1 .left) _ _, put .1 ∙ put-loaded same (c .before .before .before .before .before .before .before .if1 .left) _ _)
+    let put = c .before .before .before .before in
+    let tested = put .before .before .before in
+    let same = tested .before .before .load .ensures in (
+      put .put .ensures .0 ∙ judge-loaded same (tested .if1 .left) _ _,
+      put .put .ensures .1 ∙ put-loaded same (tested .if1 .left) _ _,
+    )
 
 pub kweldabe-put-spec : {M : Type 1} → statement M
 kweldabe-put-spec =

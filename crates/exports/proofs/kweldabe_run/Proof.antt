@@ -36,7 +36,9 @@ same-length-3 c = search needs
 
 returns-2 : tie.Need-returns-2
 returns-2 c =
-    run-loaded (c .before .before .before .before .before .before .before .before .before .before .before .before .before .load .ensures) (c .before .before .before .before .before .before .before .before .before .before .before .if1 .left) _ _ _ _ _ _ _ (c .before .before .before .before .before .before .before .run .ensures) (c .pack-run2 .ensures)
+    let ran = c .before .before .before .before .before .before .before in
+    let tested = ran .before .before .before .before in
+    run-loaded (tested .before .before .load .ensures) (tested .if1 .left) _ _ _ _ _ _ _ (ran .run .ensures) (c .pack-run2 .ensures)
 
 pub kweldabe-run-spec : {M : Type 1} → statement M
 kweldabe-run-spec =

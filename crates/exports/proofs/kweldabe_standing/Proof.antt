@@ -28,7 +28,10 @@ pack-standing-requires-2 c κs = search needs
 
 returns-2 : tie.Need-returns-2
 returns-2 c =
-    c .pack-standing2 .ensures ∙ standing-loaded (c .before .before .before .before .before .load .ensures) (c .before .before .before .if1 .left) _ _ _ (c .before .before .standing .ensures)
+    let found = c .before .before in
+    let tested = found .before in
+    c .pack-standing2 .ensures
+    ∙ standing-loaded (tested .before .before .load .ensures) (tested .if1 .left) _ _ _ (found .standing .ensures)
 
 pub kweldabe-standing-spec : {M : Type 1} → statement M
 kweldabe-standing-spec =

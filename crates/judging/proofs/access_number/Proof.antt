@@ -13,7 +13,9 @@ is-unasked-requires : tie.Need-is-unasked-requires
 is-unasked-requires c κs = search needs
 
 returns : tie.Need-returns
-returns c = sym (unasked-access _ _ _ _ _ _ (c .before .before .before .before .pre .tables) (sym (c .before .is-unasked .ensures) ∙ c .if1 .taken))
+returns c =
+    let start = c .before .before .before .before in
+    sym (unasked-access _ _ _ _ _ _ (start .pre .tables) (sym (c .before .is-unasked .ensures) ∙ c .if1 .taken))
 
 judge-access-requires : tie.Need-judge-access-requires
 judge-access-requires c κs = search needs

@@ -65,8 +65,9 @@ returns-2 c =
     known-both (personDeclared t (start .args .s)) (folderDeclared t (start .args .o))
     (are-declared .result) (are-declared .ensures) (tested .if1 .left) in
     let writes = start .args .write in
+    let levels = levelAt (now (start .args .l)) in
     rw whole-part at (c .judge-rules .ensures)
-    ∙ ap (λ (n : ℕ). accessNumber t (setOf (now (start .args .h))) (levelAt (now (start .args .l))) (start .args .s) (start .args .o) n writes)
+    ∙ ap (λ (n : ℕ). accessNumber t (setOf (now (start .args .h))) levels (start .args .s) (start .args .o) n writes)
     (c .before .access-right .ensures
     ∙ ap (λ (e : Folder). accessRight writes (e .kind)) (c .before .before .before .folder .ensures))
     ∙ sym (access-number _ _ _ (start .pre .tables) writes _ _ (known .0) (known .1))

@@ -27,7 +27,9 @@ blank-requires : tie.Need-blank-requires
 blank-requires c κs = search needs
 
 set-first-requires : tie.Need-set-first-requires
-set-first-requires c κs = passed-ready _ _ (sym (c .before .before .before .before .before .before .checked .ensures) ∙ c .before .before .before .before .before .if1 .left) .held
+set-first-requires c κs =
+    let tested = c .before .before .before .before .before in
+    passed-ready _ _ (sym (tested .before .checked .ensures) ∙ tested .if1 .left) .held
 
 same-length-3 : tie.Need-same-length-3
 same-length-3 c = search needs
@@ -37,7 +39,10 @@ same-length-4 c = search needs
 
 returns-2 : tie.Need-returns-2
 returns-2 c =
-    blank-made _ _ _ (c .before .before .before .before .before .before .before .before .before .checked .ensures) (c .before .before .before .before .before .before .before .before .if1 .left) (c .before .before .before .before .before .before .blank .ensures) (c .before .before .set-first .ensures)
+    let stored = c .before .before in
+    let blanked = stored .before .before .before .before in
+    let tested = blanked .before .before in
+    blank-made _ _ _ (tested .before .checked .ensures) (tested .if1 .left) (blanked .blank .ensures) (stored .set-first .ensures)
 
 pub blank-spec : {M : Type 1} → statement M
 blank-spec =

@@ -20,11 +20,13 @@ given-requires c κs = search needs
 
 returns-3 : tie.Need-returns-3
 returns-3 c =
-    sym (all-pass _ _ (c .before .before .before .if1 .left) (c .before .before .if2 .left) (sym (c .before .given .ensures) ∙ c .if3 .taken))
+    let sized = c .before .before in
+    sym (all-pass _ _ (sized .before .if1 .left) (sized .if2 .left) (sym (c .before .given .ensures) ∙ c .if3 .taken))
 
 returns-4 : tie.Need-returns-4
 returns-4 c =
-    sym (not-given _ _ (c .before .before .before .if1 .left) (c .before .before .if2 .left) (sym (c .before .given .ensures) ∙ c .if3 .left))
+    let sized = c .before .before in
+    sym (not-given _ _ (sized .before .if1 .left) (sized .if2 .left) (sym (c .before .given .ensures) ∙ c .if3 .left))
 
 pub checked-spec : {M : Type 1} → statement M
 checked-spec = tie.close (tie.spec returns returns-2 given-requires returns-3 returns-4)

@@ -21,12 +21,16 @@ pack-requires c κs = search needs
 
 judge-bytes-requires : tie.Need-judge-bytes-requires
 judge-bytes-requires c κs =
-    rw (c .before .pack .ensures) (passed-ready _ _ (sym (c .before .before .before .checked .ensures) ∙ c .before .before .if1 .left))
+    let packs = c .before in
+    let tested = packs .before in
+    rw (packs .pack .ensures) (passed-ready _ _ (sym (tested .before .checked .ensures) ∙ tested .if1 .left))
 
 returns-2 : tie.Need-returns-2
 returns-2 c =
-    rw (c .before .before .pack .ensures) at (c .judge-bytes .ensures)
-    ∙ judge-ready _ _ _ (passed-ready _ _ (sym (c .before .before .before .before .checked .ensures) ∙ c .before .before .before .if1 .left))
+    let packs = c .before .before in
+    let tested = packs .before in
+    rw (packs .pack .ensures) at (c .judge-bytes .ensures)
+    ∙ judge-ready _ _ _ (passed-ready _ _ (sym (tested .before .checked .ensures) ∙ tested .if1 .left))
 
 pub judge-spec : {M : Type 1} → statement M
 judge-spec =

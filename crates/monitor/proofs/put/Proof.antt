@@ -30,7 +30,9 @@ pack-requires c κs = search needs
 
 put-next-requires : tie.Need-put-next-requires
 put-next-requires c κs =
-    rw (c .before .before .before .pack .ensures) (passed-ready _ _ (sym (c .before .before .before .before .before .checked .ensures) ∙ c .before .before .before .before .if1 .left))
+    let packs = c .before .before .before in
+    let tested = packs .before in
+    rw (packs .pack .ensures) (passed-ready _ _ (sym (tested .before .checked .ensures) ∙ tested .if1 .left))
 
 same-length-3 : tie.Need-same-length-3
 same-length-3 c = search needs
@@ -40,7 +42,8 @@ same-length-4 c = search needs
 
 returns-2 : tie.Need-returns-2
 returns-2 c =
-    let turned = rw (c .before .before .before .before .before .before .before .before .pack .ensures) at (c .before .before .before .before .put-next .ensures) in
+    let put = c .before .before .before .before in
+    let turned = rw (put .before .before .before .before .pack .ensures) at (put .put-next .ensures) in
     (turned .judgedAs, turned .left)
 
 pub put-spec : {M : Type 1} → statement M

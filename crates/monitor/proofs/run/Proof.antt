@@ -27,7 +27,8 @@ same-length-2 c = search needs
 
 returns : tie.Need-returns
 returns c =
-    rw (c .no-run .ensures) (run-stopped _ _ _ _ (c .before .before .checked .result) (c .before .before .checked .ensures) (c .before .if1 .taken))
+    let tested = c .before in
+    rw (c .no-run .ensures) (run-stopped _ _ _ _ (tested .before .checked .result) (tested .before .checked .ensures) (tested .if1 .taken))
 
 answers-due-requires : tie.Need-answers-due-requires
 answers-due-requires c κs = search needs
@@ -43,16 +44,22 @@ same-length-4 c = search needs
 
 returns-2 : tie.Need-returns-2
 returns-2 c =
+    let due = c .before .before in
+    let tested = due .before in
     rw (c .no-run2 .ensures)
-    (run-without-room _ _ _ _ (sym (c .before .before .before .before .checked .ensures) ∙ c .before .before .before .if1 .left) (rw (← c .before .before .answers-due .ensures) (c .before .if2 .taken)))
+    (run-without-room _ _ _ _ (sym (tested .before .checked .ensures) ∙ tested .if1 .left)
+    (rw (← due .answers-due .ensures) (c .before .if2 .taken)))
 
 pack-requires : tie.Need-pack-requires
 pack-requires c κs = search needs
 
 run-ready-requires : tie.Need-run-ready-requires
 run-ready-requires c κs =
-    let ready = passed-ready _ _ (sym (c .before .before .before .before .before .before .before .before .checked .ensures) ∙ c .before .before .before .before .before .before .before .if1 .left) in
-    (rw (c .before .before .before .before .pack .ensures) ready, rw (← c .before .before .before .before .before .before .answers-due .ensures) (c .before .before .before .before .before .if2 .left))
+    let packs = c .before .before .before .before in
+    let due = packs .before .before in
+    let tested = due .before in
+    let ready = passed-ready _ _ (sym (tested .before .checked .ensures) ∙ tested .if1 .left) in
+    (rw (packs .pack .ensures) ready, rw (← due .answers-due .ensures) (packs .before .if2 .left))
 
 same-length-5 : tie.Need-same-length-5
 same-length-5 c = search needs
@@ -65,10 +72,13 @@ same-length-7 c = search needs
 
 returns-3 : tie.Need-returns-3
 returns-3 c =
-    let tested = c .before .before .before .before .before .before .before .before .before .before .before .before in
-    let done = rw (c .before .before .before .before .before .before .before .before .before .before .before .pack .ensures) at (c .before .before .before .before .before .before .run-ready .ensures) in
-    run-done _ _ _ _ (sym (tested .before .before .before .checked .ensures) ∙ tested .before .before .if1 .left)
-    (rw (← tested .before .answers-due .ensures) (tested .if2 .left)) _ _ _ _
+    let ran = c .before .before .before .before .before .before in
+    let packs = ran .before .before .before .before .before in
+    let due = packs .before .before in
+    let tested = due .before in
+    let done = rw (packs .pack .ensures) at (ran .run-ready .ensures) in
+    run-done _ _ _ _ (sym (tested .before .checked .ensures) ∙ tested .if1 .left)
+    (rw (← due .answers-due .ensures) (packs .before .if2 .left)) _ _ _ _
     (done .granted) (done .refused) (done .left) (done .answers)
 
 pub run-spec : {M : Type 1} → statement M

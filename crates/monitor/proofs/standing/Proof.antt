@@ -32,8 +32,9 @@ no-standing-requires c κs = search needs
 
 returns : tie.Need-returns
 returns c =
+    let tested = c .before in
     c .no-standing .ensures
-    ∙ standing-refused _ _ _ (c .before .before .checked .result) (c .before .before .checked .ensures) (c .before .if1 .taken)
+    ∙ standing-refused _ _ _ (tested .before .checked .result) (tested .before .checked .ensures) (tested .if1 .taken)
 
 pack-requires : tie.Need-pack-requires
 pack-requires c κs = search needs
@@ -49,30 +50,41 @@ no-standing-requires-2 c κs = search needs
 
 returns-2 : tie.Need-returns-2
 returns-2 c =
-    let start = c .before .before .before .before .before .before .before .before .before .before in
-    let is-person = rw (c .before .before .before .before .before .pack .ensures) at (c .before .before .is-person .ensures) in
+    let known = c .before in
+    let packs = known .before .before .before .before in
+    let tested = packs .before in
+    let start = tested .before .before .before .before in
+    let is-person = rw (packs .pack .ensures) at (known .before .is-person .ensures) in
+    let own = known .before .before .before .wide .ensures .0 in
     c .no-standing2 .ensures
-    ∙ standing-undeclared _ _ _ (sym (c .before .before .before .before .before .before .before .checked .ensures) ∙ c .before .before .before .before .before .before .if1 .left)
-    (ap (personDeclared (start .args .t)) (sym (c .before .before .before .before .wide .ensures .0)) ∙ sym is-person ∙ not-true _ (c .before .if2 .taken))
+    ∙ standing-undeclared _ _ _ (sym (tested .before .checked .ensures) ∙ tested .if1 .left)
+    (ap (personDeclared (start .args .t)) (sym own) ∙ sym is-person ∙ not-true _ (known .if2 .taken))
 
 stepped-by-requires : tie.Need-stepped-by-requires
 stepped-by-requires c κs =
-    let ready = passed-ready _ _ (sym (c .before .before .before .before .before .before .before .checked .ensures) ∙ c .before .before .before .before .before .before .if1 .left) in
-    (ready .size, person-below _ _ (sym (c .before .before .is-person .ensures) ∙ not-false _ (c .before .if2 .left)))
+    let known = c .before in
+    let tested = known .before .before .before .before .before in
+    let ready = passed-ready _ _ (sym (tested .before .checked .ensures) ∙ tested .if1 .left) in
+    (ready .size, person-below _ _ (sym (known .before .is-person .ensures) ∙ not-false _ (known .if2 .left)))
 
 past-of-requires : tie.Need-past-of-requires
 past-of-requires c κs =
-    let ready = passed-ready _ _ (sym (c .before .before .before .before .before .before .before .before .checked .ensures) ∙ c .before .before .before .before .before .before .before .if1 .left) in (
+    let known = c .before .before in
+    let packs = known .before .before .before .before in
+    let tested = packs .before in
+    let ready = passed-ready _ _ (sym (tested .before .checked .ensures) ∙ tested .if1 .left) in (
       ready .size,
-      rw (c .before .before .before .before .before .before .pack .ensures) (ready .tables),
-      sym (c .before .before .before .is-person .ensures) ∙ not-false _ (c .before .before .if2 .left),
+      rw (packs .pack .ensures) (ready .tables),
+      sym (known .before .is-person .ensures) ∙ not-false _ (known .if2 .left),
       c .stepped-by .ensures,
     )
 
 entry-requires : tie.Need-entry-requires
 entry-requires c κs =
-    let ready = passed-ready _ _ (sym (c .before .before .before .before .before .before .before .before .before .checked .ensures) ∙ c .before .before .before .before .before .before .before .before .if1 .left) in
-    (ready .held, person-below _ _ (sym (c .before .before .before .before .is-person .ensures) ∙ not-false _ (c .before .before .before .if2 .left)))
+    let known = c .before .before .before in
+    let tested = known .before .before .before .before .before in
+    let ready = passed-ready _ _ (sym (tested .before .checked .ensures) ∙ tested .if1 .left) in
+    (ready .held, person-below _ _ (sym (known .before .is-person .ensures) ∙ not-false _ (known .if2 .left)))
 
 count64-requires : tie.Need-count64-requires
 count64-requires c κs = search needs
@@ -82,18 +94,21 @@ count64-requires-2 c κs = search needs
 
 returns-3 : tie.Need-returns-3
 returns-3 c =
-    let tested = c .before .before .before .before .before .before in
-    let packs = c .before .before .before .before .before .before .before .before .before .before in
-    let start = c .before .before .before .before .before .before .before .before .before .before .before .before .before .before .before in
+    let known = c .before .before .before .before .before .before in
+    let packs = known .before .before .before .before in
+    let tested = packs .before in
+    let start = tested .before .before .before .before in
+    let read = c .before .before in
+    let gathered = read .before in
     let t = start .args .t in
-    let own = tested .before .before .before .wide .ensures .0 in
+    let own = known .before .before .before .wide .ensures .0 in
     let packed = packs .pack .ensures in
-    let is-person = rw packed at (tested .before .is-person .ensures) in
-    standing-is _ _ _ (sym (packs .before .before .checked .ensures) ∙ packs .before .if1 .left)
-    (ap (personDeclared t) (sym own) ∙ sym is-person ∙ not-false _ (tested .if2 .left))
-    (c .before .before .before .past-of .result) (c .before .before .entry .result .0) (c .before .count64 .result) (c .count642 .result)
-    (rw packed at (c .before .before .before .past-of .ensures) ∙ ap (pastOf t (setOf (now (start .args .h)))) own)
-    (c .before .before .entry .ensures ∙ ap (levelAt (now (start .args .l))) own)
+    let is-person = rw packed at (known .before .is-person .ensures) in
+    standing-is _ _ _ (sym (tested .before .checked .ensures) ∙ tested .if1 .left)
+    (ap (personDeclared t) (sym own) ∙ sym is-person ∙ not-false _ (known .if2 .left))
+    (gathered .past-of .result) (read .entry .result .0) (c .before .count64 .result) (c .count642 .result)
+    (rw packed at (gathered .past-of .ensures) ∙ ap (pastOf t (setOf (now (start .args .h)))) own)
+    (read .entry .ensures ∙ ap (levelAt (now (start .args .l))) own)
     (c .before .count64 .ensures) (c .count642 .ensures)
 
 pub standing-spec : {M : Type 1} → statement M

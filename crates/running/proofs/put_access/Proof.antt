@@ -32,9 +32,10 @@ set-bit-requires c κs = search needs
 
 lower-requires : tie.Need-lower-requires
 lower-requires c κs =
-    let start = c .before .before .before .before .before .before .before .before .before .before .before .before .before in
-    let (person, folder) = access-within _ _ _ (c .before .before .before .before .before .before .before .if1 .left) _ _ _ (c .before .before .before .before .before .before .before .before .access-number .ensures) in
-    (start .pre .0 .held, person, folder)
+    let tested = c .before .before .before .before .before .before .before in
+    let judged = tested .before in
+    let (person, folder) = access-within _ _ _ (tested .if1 .left) _ _ _ (judged .access-number .ensures) in
+    (judged .before .before .before .before .before .pre .0 .held, person, folder)
 
 same-length-3 : tie.Need-same-length-3
 same-length-3 c = search needs
@@ -44,11 +45,14 @@ same-length-4 c = search needs
 
 returns-2 : tie.Need-returns-2
 returns-2 c =
-    let judged = c .before .before .before .before .before .before .before .before .before .before .before .access-number .ensures in
-    let zero = c .before .before .before .before .before .before .before .before .before .before .if1 .left in
+    let lowered = c .before .before in
+    let recorded = lowered .before .before .before .before .before in
+    let tested = recorded .before .before .before in
+    let zero = tested .if1 .left in
+    let levels = lowered .lower .ensures ∙ read-lowers _ _ _ _ _ (not-true _ (lowered .before .before .if2 .taken)) in
     rw zero at
-    (put-granted _ _ _ _ judged zero (c .before .before .before .before .before .before .before .before .access-index .ensures) (c .before .before .before .before .before .before .before .set-bit .ensures)
-    (c .before .before .lower .ensures ∙ read-lowers _ _ _ _ _ (not-true _ (c .before .before .before .before .if2 .taken))))
+    (put-granted _ _ _ _ (tested .before .access-number .ensures) zero (recorded .before .access-index .ensures)
+    (recorded .set-bit .ensures) levels)
 
 same-length-5 : tie.Need-same-length-5
 same-length-5 c = search needs
@@ -58,11 +62,12 @@ same-length-6 c = search needs
 
 returns-3 : tie.Need-returns-3
 returns-3 c =
-    let judged = c .before .before .before .before .before .before .before .access-number .ensures in
-    let zero = c .before .before .before .before .before .before .if1 .left in
+    let recorded = c .before .before .before in
+    let tested = recorded .before .before .before in
+    let zero = tested .if1 .left in
     rw zero at
-    (put-granted _ _ _ _ judged zero (c .before .before .before .before .access-index .ensures) (c .before .before .before .set-bit .ensures)
-    (write-leaves _ _ _ _ _ (not-false _ (c .if2 .left))))
+    (put-granted _ _ _ _ (tested .before .access-number .ensures) zero (recorded .before .access-index .ensures)
+    (recorded .set-bit .ensures) (write-leaves _ _ _ _ _ (not-false _ (c .if2 .left))))
 
 pub put-access-spec : {M : Type 1} → statement M
 put-access-spec =

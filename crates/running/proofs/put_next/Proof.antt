@@ -61,7 +61,9 @@ put-step-requires : tie.Need-put-step-requires
 put-step-requires c κs = search needs
 
 returns : tie.Need-returns
-returns c = cut-turned _ _ _ _ (c .before .before .before .before .before .before .pre) (holds-none _ _ (c .before .before .parse .ensures) (c .enum-told .given .1))
+returns c =
+    let parsed = c .before .before in
+    cut-turned _ _ _ _ (parsed .before .before .before .before .pre) (holds-none _ _ (parsed .parse .ensures) (c .enum-told .given .1))
 
 same-length : tie.Need-same-length
 same-length c = search needs
@@ -71,10 +73,13 @@ same-length-2 c = search needs
 
 returns-2 : tie.Need-returns-2
 returns-2 c =
+    let put = c .before .before .before .before in
+    let told = put .before .before .before .before .before .before in
+    let parsed = told .before .before in
     let holds =
-    holds-access _ _ (c .before .before .before .before .before .before .before .before .before .before .before .before .parse .ensures) _ _ _ _ _ (c .before .before .before .before .before .before .before .before .before .before .parsed .given .1) (c .before .before .before .before .before .before .wide .ensures .0)
-    (c .before .before .before .before .before .wide2 .ensures .0) in
-    put-turned _ _ _ _ (c .before .before .before .before .before .before .before .before .before .before .before .before .before .before .before .before .pre) _ holds (c .before .before .before .before .put-access .ensures) (sym (access-length _ _ _))
+    holds-access _ _ (parsed .parse .ensures) _ _ _ _ _ (told .parsed .given .1) (put .before .before .wide .ensures .0)
+    (put .before .wide2 .ensures .0) in
+    put-turned _ _ _ _ (parsed .before .before .before .before .pre) _ holds (put .put-access .ensures) (sym (access-length _ _ _))
 
 same-length-3 : tie.Need-same-length-3
 same-length-3 c = search needs
@@ -85,10 +90,13 @@ same-length-4 c = search needs
 returns-3 : tie.Need-returns-3
 unfolding recordLength
 returns-3 c =
+    let put = c .before .before in
+    let told = put .before .before .before .before .before .before in
+    let parsed = told .before .before in
     let holds =
-    holds-start _ _ (c .before .before .before .before .before .before .before .before .before .before .parse .ensures) _ _ _ _ (c .before .before .before .before .before .before .before .before .parsed2 .given .1) (c .before .before .before .before .wide3 .ensures .0)
-    (c .before .before .before .wide4 .ensures .0) in
-    put-turned _ _ _ _ (c .before .before .before .before .before .before .before .before .before .before .before .before .before .before .pre) _ holds (c .before .before .put-start .ensures) refl
+    holds-start _ _ (parsed .parse .ensures) _ _ _ _ (told .parsed2 .given .1) (put .before .before .wide3 .ensures .0)
+    (put .before .wide4 .ensures .0) in
+    put-turned _ _ _ _ (parsed .before .before .before .before .pre) _ holds (put .put-start .ensures) refl
 
 same-length-5 : tie.Need-same-length-5
 same-length-5 c = search needs
@@ -99,10 +107,13 @@ same-length-6 c = search needs
 returns-4 : tie.Need-returns-4
 unfolding recordLength
 returns-4 c =
+    let put = c .before .before .before .before in
+    let told = put .before .before .before .before .before .before .before in
+    let parsed = told .before .before in
     let holds =
-    holds-step _ _ (c .before .before .before .before .before .before .before .before .before .before .before .before .before .parse .ensures) _ _ _ _ _ _ (c .before .before .before .before .before .before .before .before .before .before .before .parsed3 .given .1) (c .before .before .before .before .before .before .before .wide5 .ensures .0)
-    (c .before .before .before .before .before .before .wide6 .ensures .0) (c .before .before .before .before .before .wide7 .ensures .0) in
-    put-turned _ _ _ _ (c .before .before .before .before .before .before .before .before .before .before .before .before .before .before .before .before .before .pre) _ holds (c .before .before .before .before .put-step .ensures) refl
+    holds-step _ _ (parsed .parse .ensures) _ _ _ _ _ _ (told .parsed3 .given .1) (put .before .before .before .wide5 .ensures .0)
+    (put .before .before .wide6 .ensures .0) (put .before .wide7 .ensures .0) in
+    put-turned _ _ _ _ (parsed .before .before .before .before .pre) _ holds (put .put-step .ensures) refl
 
 pub put-next-spec : {M : Type 1} → statement M
 put-next-spec =

@@ -23,8 +23,10 @@ same-length c = search needs
 
 returns : tie.Need-returns
 returns c =
-    put-granted _ _ _ _ (c .before .before .before .before .before .before .judge-start .ensures) (c .before .before .before .before .before .if1 .taken) (c .before .before .before .start-index .ensures) (c .before .before .set-bit .ensures)
-    (start-leaves _ _ _ _)
+    let recorded = c .before .before in
+    let tested = recorded .before .before .before in
+    put-granted _ _ _ _ (tested .before .judge-start .ensures) (tested .if1 .taken) (recorded .before .start-index .ensures)
+    (recorded .set-bit .ensures) (start-leaves _ _ _ _)
 
 same-length-2 : tie.Need-same-length-2
 same-length-2 c = search needs

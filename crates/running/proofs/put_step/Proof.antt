@@ -22,9 +22,10 @@ set-bit-requires c κs = search needs
 
 lower-requires : tie.Need-lower-requires
 lower-requires c κs =
-    let start = c .before .before .before .before .before .before .before .before .before .before .before .before in
-    let (person, folder) = step-within _ _ _ (c .before .before .before .before .before .before .if1 .taken) _ _ _ (c .before .before .before .before .before .before .before .judge-step .ensures) in
-    (start .pre .0 .held, person, folder)
+    let tested = c .before .before .before .before .before .before in
+    let judged = tested .before in
+    let (person, folder) = step-within _ _ _ (tested .if1 .taken) _ _ _ (judged .judge-step .ensures) in
+    (judged .before .before .before .before .before .pre .0 .held, person, folder)
 
 same-length : tie.Need-same-length
 same-length c = search needs
@@ -34,8 +35,11 @@ same-length-2 c = search needs
 
 returns : tie.Need-returns
 returns c =
-    put-granted _ _ _ _ (c .before .before .before .before .before .before .before .before .before .before .judge-step .ensures) (c .before .before .before .before .before .before .before .before .before .if1 .taken) (c .before .before .before .before .before .before .before .step-index .ensures) (c .before .before .before .before .before .before .set-bit .ensures)
-    (c .before .before .lower .ensures ∙ step-lowers _ _ _ _ _)
+    let lowered = c .before .before in
+    let recorded = lowered .before .before .before .before in
+    let tested = recorded .before .before .before in
+    put-granted _ _ _ _ (tested .before .judge-step .ensures) (tested .if1 .taken) (recorded .before .step-index .ensures)
+    (recorded .set-bit .ensures) (lowered .lower .ensures ∙ step-lowers _ _ _ _ _)
 
 same-length-3 : tie.Need-same-length-3
 same-length-3 c = search needs

@@ -39,8 +39,9 @@ put-next-requires c κs = c .before .before .before .before .loop .inv .4 .ready
 
 slice-write-answers : tie.Need-slice-write-answers Inv-loop μ-loop
 slice-write-answers c =
-    let going = c .before .before .before .before .before .before .before .before .before .loop in
-    let requests = c .before .before .before .before .before .before .before .before .before .before .before .before .before .before .args .requests .now in
+    let looped = c .before .before .before .before .before .before .before .before .before in
+    let going = looped .loop in
+    let requests = looped .before .before .before .before .before .args .requests .now in
     let due = done-due (going .inv .4) in
     omega (arith, due-at requests (going .at) (omega arith))
 
@@ -62,7 +63,8 @@ add-at c =
     let going = turned .before .before .before .before .before .loop in
     let requests = turned .before .before .before .before .before .before .before .before .before .before .args .requests .now in
     let turn = rw part-to-end at (turned .put-next .ensures) in
-    let fits = c .before .before .before .before .before .before .before .before .before .before .before .before .before .before .before .before .good .1 .1 .1 .0 .0 in
+    let start = turned .before .before .before .before .before .before .before .before .before .before in
+    let fits = start .good .1 .1 .1 .0 .0 in
     omega (arith, turn .onward, next-at-within requests (going .at) (omega arith))
 
 loop-less : tie.Need-loop-less Inv-loop μ-loop
