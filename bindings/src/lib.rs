@@ -54,7 +54,7 @@ pub struct Ran {
     pub refused: usize,
 }
 
-/// A person's current level, the number of rights used and of firms opened.
+/// A person's stored level, the number of rights used and of firms opened.
 #[derive(Clone, Copy, PartialEq, Eq, Debug)]
 pub struct Standing {
     pub number: u8,

@@ -45,7 +45,7 @@ fn pack_standing(number: u8, level: u16, rights: u32, firms: u32) -> u64
         + 4294967296 * (firms as u64 % 256)
 }
 
-// Makes a history all zero, and stores each person's first level: 0, 10 or 20.
+// Makes a history all zero, and stores each person's first level: 0, 10, 20, or the number of a refused book.
 #[no_mangle]
 pub extern "C" fn kweldabe_blank(book: &[u8], history: &mut [u8], levels: &mut [u8]) -> u8
     ensures { λ r. ⌜

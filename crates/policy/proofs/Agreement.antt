@@ -31,7 +31,7 @@ use Rattle.policy.specs.Rulebook.{given, loadBook}
 use Rattle.policy.specs.Request.{Request, read, write, start, step, setOf, member}
 use Rattle.policy.specs.Levels.{levelAt}
 use Rattle.policy.specs.Calls.{State, putStates}
-use Rattle.policy.specs.Held.{HoldsCurrent, HoldsZero}
+use Rattle.policy.specs.Held.{HoldsEach, HoldsZero}
 use Rattle.policy.specs.Agreement.{FromBlank, granted, SameSet, Done, stepsOn, Throughout, Claim}
 use Rattle.policy.specs.Ways.{Way, Enables}
 use Rattle.policy.proofs.Circles.{no-circle}
@@ -111,9 +111,9 @@ module _ (t : Tables) (ok : given t ≡ true) (a b : State) (blank : FromBlank t
 
   -- ---- the levels
 
-  held-current : HoldsCurrent t (putStates t a xs)
+  held-each : HoldsEach t (putStates t a xs)
   unfolding levelAt
-  held-current s person = rw (levels-stand t ok a xs blank s (person .0)) (level-is-meet t (setOf (putStates t a xs .history)) s)
+  held-each s below = rw (levels-stand t ok a xs blank s below) (level-is-meet t (setOf (putStates t a xs .history)) s)
 
   -- an undeclared person read and stepped on nothing, and the first level is zero
   held-zero : HoldsZero t (putStates t a xs)
@@ -136,7 +136,7 @@ agreement book ok a b blank blank′ xs ys =
       histories = equal-histories t given-tables a b xs ys blank blank′;
       levels = equal-levels t given-tables a b xs ys blank blank′;
       size = stands-granted t given-tables a xs blank .current .size;
-      held = held-current t given-tables a b blank blank′ xs ys;
+      held = held-each t given-tables a b blank blank′ xs ys;
       others = held-zero t given-tables a b blank blank′ xs ys;
       future = same-future t given-tables a b xs ys blank blank′;
       steps = λ on.

@@ -1,18 +1,19 @@
--- Every call's number is a published one, because each is the number of an ordered list of checks, whose numbers are written in it; and a
--- book comes to a refusal with a published number, or to tables with the number 0.
+-- Every call's number is a published one, because each is the number of an ordered list of checks, whose numbers are written in it, and the
+-- first checks of every call are blank's; and a book comes to a refusal with a published number, or to tables with the number 0.
 use Prim.Native.Nat.{ℕ, zero, suc, _+_}
-use mathlib.Core.Path.{_≡_, refl, sym}
+use mathlib.Core.Path.{_≡_, refl, sym, _∙_}
+use mathlib.Core.Logic.{_≢_}
 use mathlib.Core.Bool.{Bool, true}
 use mathlib.Core.List.{List, [], _∷_, _++_, List·Memᴰ, List·Memᴰ·head, List·Memᴰ·tail, Memᴰ·cast}
 use mathlib.Core.Option.{Option, none, some}
 use lib.Dec.{eqb}
-use borrow.Author.Tests.{eqb-true}
+use borrow.Author.Tests.{eqb-true, eq-eqb, ne-eqb}
 use lib.ListN.{length, drop}
 use Rattle.policy.specs.declared.Tables.{Tables}
 use Rattle.policy.specs.declared.Loaded.{Loaded}
 use Rattle.policy.specs.declared.Ran.{Ran}
 use Rattle.policy.specs.declared.Standing.{Standing}
-use Rattle.policy.specs.Checks.{ladder}
+use Rattle.policy.specs.Checks.{Check, ladder}
 use Rattle.policy.specs.Rulebook.{
   bodyLength,
   recordOf,
@@ -24,7 +25,9 @@ use Rattle.policy.specs.Rulebook.{
   loadFrom,
   loadBook,
 }
+use Rattle.policy.specs.History.{historyBytes}
 use Rattle.policy.specs.Request.{Request, requestOf}
+use Rattle.policy.specs.Levels.{levelsBytes}
 use Rattle.policy.specs.Calls.{
   State,
   blankNumber,
@@ -36,9 +39,9 @@ use Rattle.policy.specs.Calls.{
   standingNumber,
   standing,
 }
-use Rattle.policy.specs.Demands.{Numbers}
+use Rattle.policy.specs.Demands.{Numbers, Beginnings}
 use Rattle.bits.proofs.Booleans.{by-test}
-use Rattle.policy.proofs.Ladders.{numbered, ladder-member, all-stand-in}
+use Rattle.policy.proofs.Ladders.{numbered, ladder-first, first-ladder, refusal-front, ladder-member, all-stand-in}
 
 -- ---- no check has the number 0
 
@@ -103,4 +106,33 @@ numbers =
       judge = λ t a bytes. judge-number t a _ _ (requestOf bytes);
       run = λ t a requests answers. Memᴰ·cast (ran-number t a requests answers) (ladder-member _);
       standing = λ t a s. Memᴰ·cast (standing-number t a s) (ladder-member _);
+    }
+
+-- ---- the checks that every call begins with
+
+refused-first : (checks rest : List Check) → ladder checks ≢ 0 → ladder (checks ++ rest) ≡ ladder checks
+refused-first checks rest n = first-ladder (checks ++ rest) (ladder checks) (refusal-front rest (ladder-first checks n))
+
+module _ (t : Tables) (a : State) (n : blankNumber t a ≢ 0) where
+  judge-first : (bytes : List ℕ) → judgeNumber t a bytes ≡ blankNumber t a
+  unfolding judgeNumber blankNumber
+  judge-first bytes = refused-first (callChecks t a) _ n
+
+  run-first : (requests answers : List ℕ) → runNumber t a requests answers ≡ blankNumber t a
+  unfolding runNumber blankNumber
+  run-first requests answers = refused-first (callChecks t a) _ n
+
+  standing-first : (s : ℕ) → standingNumber t a s ≡ blankNumber t a
+  unfolding standingNumber blankNumber
+  standing-first s = refused-first (callChecks t a) _ n
+
+pub beginnings : Beginnings
+unfolding blankNumber callChecks ladder
+beginnings =
+    record {
+      ten = λ t a n. rw (ne-eqb (length (a .history)) historyBytes n);
+      twenty = λ t a size n. rw (eq-eqb (length (a .history)) historyBytes size, ne-eqb (length (a .levels)) levelsBytes n);
+      judge = λ t a bytes n. judge-first t a n bytes;
+      run = λ t a requests answers n. ran-number t a requests answers ∙ run-first t a n requests answers;
+      standing = λ t a s n. standing-number t a s ∙ standing-first t a n s;
     }

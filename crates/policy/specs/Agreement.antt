@@ -14,7 +14,7 @@ use Rattle.policy.specs.Tables.{noFirm, noPerson, noFolder, noRole, inFo
 use Rattle.policy.specs.Rulebook.{Record, rules, firm, person, folder, role, pair, public, loadBook, recordsOf}
 use Rattle.policy.specs.Request.{Request, read, write, start, step, requestOf}
 use Rattle.policy.specs.Calls.{State, blankNumber, blankState, addedIf, judgeList, putNumbers, putStates}
-use Rattle.policy.specs.Held.{HoldsCurrent, HoldsZero}
+use Rattle.policy.specs.Held.{HoldsEach, HoldsZero}
 
 -- the tables hold what the records declare, all of it and nothing else: what no record declares is zero and marked undeclared; a folder is
 -- marked public exactly where a record says so, and the rest of its entry is as its own record declares it
@@ -93,7 +93,7 @@ pub record Agreement (t : Tables) (records : List Record) (a b : State) (xs ys :
   pub levels : SameSet (granted t a xs) (granted t b ys) → putStates t a xs .levels ≡ putStates t b ys .levels
   -- the levels are 128 bytes, and each of the 64 entries is the level that the history gives, zero for the undeclared
   pub size : length (putStates t a xs .levels) ≡ 128
-  pub held : HoldsCurrent t (putStates t a xs)
+  pub held : HoldsEach t (putStates t a xs)
   pub others : HoldsZero t (putStates t a xs)
   -- the same set has the same future: the same numbers place by place, and equal histories and levels
   pub future :

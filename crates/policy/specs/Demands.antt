@@ -110,6 +110,15 @@ pub record Causes : Type 0 where
   pub standing :
       (t : Tables) (a : State) (s n : ℕ) → OfType t → (standing t a s .number ≡ n) ↔ Answer (standingCauses t a s) n
 
+-- the checks that every call begins with, and in which order: a history of another length is told first, then levels of another length,
+-- whatever the tables are; and what blank is refused with, every call is refused with
+pub record Beginnings : Type 0 where
+  pub ten : (t : Tables) (a : State) → length (a .history) ≢ 18944 → blankNumber t a ≡ 10
+  pub twenty : (t : Tables) (a : State) → length (a .history) ≡ 18944 → length (a .levels) ≢ 128 → blankNumber t a ≡ 20
+  pub judge : (t : Tables) (a : State) (bytes : List ℕ) → blankNumber t a ≢ 0 → judgeNumber t a bytes ≡ blankNumber t a
+  pub run : (t : Tables) (a : State) (requests answers : List ℕ) → blankNumber t a ≢ 0 → ran t a requests answers .number ≡ blankNumber t a
+  pub standing : (t : Tables) (a : State) (s : ℕ) → blankNumber t a ≢ 0 → standing t a s .number ≡ blankNumber t a
+
 -- blank
 pub record Blanks : Type 0 where
   -- a blank history is all zero

@@ -7,10 +7,14 @@ use Rattle.policy.specs.Calls.{State}
 use Rattle.policy.specs.Published.{IsCurrentLevel, heldLevel}
 use Rattle.policy.specs.Causes.{IsPerson}
 
--- the buffer holds what the history gives: the entry of each declared person is the person's current level
+-- each of the 64 entries is the level that the history gives
+abbrev pub HoldsEach : Tables → State → Type 0
+HoldsEach t a = (s : ℕ) → s < 64 → IsCurrentLevel t (setOf (a .history)) s (heldLevel (a .levels) s)
+
+-- the buffer holds what the history gives, as far as a rule asks for it: the entry of each declared person is the person's current level
 abbrev pub HoldsCurrent : Tables → State → Type 0
 HoldsCurrent t a = (s : ℕ) → IsPerson t s → IsCurrentLevel t (setOf (a .history)) s (heldLevel (a .levels) s)
 
--- and the entry of each other person is zero
+-- the entry of each other person is zero
 abbrev pub HoldsZero : Tables → State → Type 0
 HoldsZero t a = (s : ℕ) → s < 64 → (IsPerson t s → ⊥) → heldLevel (a .levels) s ≡ 0

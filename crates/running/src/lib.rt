@@ -12,6 +12,7 @@ ghost use Rattle.packed.specs.Packed.{tablesOf};
 ghost use Rattle.request.specs.Parsed.{accessBy};
 ghost use Rattle.judging.specs.Judging.{Ready};
 ghost use Rattle.running.specs.Running.{Put, Turned, Finished};
+use bits::wide;
 use packed::Words;
 use policy::numbers;
 use request::Parsed;
@@ -99,11 +100,11 @@ pub fn put_next(t: &Words, h: &mut [u8], l: &mut [u8], bytes: &[u8]) -> Turn
             person,
             folder,
         } => Turn {
-            number: put_access(t, h, l, bits::wide(person), bits::wide(folder), write),
+            number: put_access(t, h, l, wide(person), wide(folder), write),
             next: 3,
         },
         Parsed::Start { person, second } => Turn {
-            number: put_start(t, h, l, bits::wide(person), bits::wide(second)),
+            number: put_start(t, h, l, wide(person), wide(second)),
             next: 3,
         },
         Parsed::Step {
@@ -111,14 +112,7 @@ pub fn put_next(t: &Words, h: &mut [u8], l: &mut [u8], bytes: &[u8]) -> Turn
             step,
             folder,
         } => Turn {
-            number: put_step(
-                t,
-                h,
-                l,
-                bits::wide(person),
-                bits::wide(step),
-                bits::wide(folder),
-            ),
+            number: put_step(t, h, l, wide(person), wide(step), wide(folder)),
             next: 4,
         },
     }
