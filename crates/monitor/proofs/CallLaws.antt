@@ -1,9 +1,9 @@
 -- The checks that every call on tables, a history and levels starts with, and what a call returns once they pass or refuse. A check that
 -- refuses gives its number whatever follows it, and checks that permit leave the number to those after them.
 use Prim.Native.Nat.{ℕ, _+_, _≤_, _<_}
-use mathlib.Core.Path.{_≡_, refl, sym, ap, ap₂, _∙_}
+use mathlib.Core.Path.{_≡_, sym, ap, ap₂, _∙_}
 use mathlib.Core.Logic.{_≢_, ⊎-elim}
-use mathlib.Core.Bool.{Bool, true, false, cond}
+use mathlib.Core.Bool.{true, false}
 use mathlib.Core.List.{List, _++_}
 use native.Mathlib.Omega.{arith}
 use lib.Dec.{eqb}
@@ -45,7 +45,7 @@ use Rattle.policy.specs.Calls.{
 use Rattle.policy.proofs.Refusals.{refusals}
 use Rattle.policy.proofs.Runs.{counts-fit as room}
 use Rattle.policy.proofs.Histories.{judge-with}
-use Rattle.policy.proofs.Ladders.{permit-first, permit-rest, ladder-zero, ladder-after}
+use Rattle.policy.proofs.CallChecks.{taken, ready-then, refused-first}
 use Rattle.judging.specs.Judging.{Ready}
 use Rattle.past.specs.declared.Past.{Past}
 use Rattle.past.specs.Past.{pastOf}
@@ -74,32 +74,10 @@ module _ (t : Tables) (a : State) where
 
   -- where they pass, the tables are given and both buffers have their lengths
   pub passed-ready : ladder (callChecks t a) ≡ 0 → Ready t (a .history) (a .levels)
-  unfolding callChecks
-  passed-ready e =
-      let all = ladder-zero (callChecks t a) refl e in
-      record {
-        tables = permit-first (permit-rest (permit-rest all));
-        size = eqb-true (length (a .history)) historyBytes (permit-first all);
-        held = eqb-true (length (a .levels)) levelsBytes (permit-first (permit-rest all));
-      }
+  passed-ready e = let lent = taken t a e in record { tables = lent .tables; size = lent .size; held = lent .held }
 
   pub passed-then : (rest : List Check) → ladder (callChecks t a) ≡ 0 → ladder (callChecks t a ++ rest) ≡ ladder rest
-  unfolding callChecks
-  passed-then rest e = ladder-after (callChecks t a) rest (ladder-zero (callChecks t a) refl e)
-
-  -- where they refuse, what follows does not count
-  pub refused-first : (rest : List Check) → ladder (callChecks t a) ≢ 0 → ladder (callChecks t a ++ rest) ≡ ladder (callChecks t a)
-  unfolding callChecks ladder
-  refused-first rest = go (eqb (length (a .history)) historyBytes) (eqb (length (a .levels)) levelsBytes) (given t)
-    where
-      number : Bool → Bool → Bool → ℕ → ℕ
-      number x y z n = cond x (cond y (cond z n 11) 20) 10
-
-      go : (x y z : Bool) → number x y z 0 ≢ 0 → number x y z (ladder rest) ≡ number x y z 0
-      go true true true n = absurd (n refl)
-      go true true false n = refl
-      go true false z n = refl
-      go false y z n = refl
+  passed-then rest e = ready-then t a rest (taken t a e)
 
 -- ---- blank
 
@@ -123,7 +101,7 @@ module _ (t : Tables) (a : State) (bytes : List ℕ) where
   judge-refused n e k = e ∙ sym (refused-first t a _ (λ z. k (e ∙ z)))
 
   pub judge-ready : Ready t (a .history) (a .levels) → judgeWith t (setOf (a .history)) (levelAt (a .levels)) bytes ≡ judgeNumber t a bytes
-  judge-ready ready = sym (judge-with t a bytes (ready .tables) (record { size = ready .size; held = ready .held }))
+  judge-ready ready = sym (judge-with t a bytes (record { size = ready .size; held = ready .held; tables = ready .tables }))
 
   pub put-refused : (n : ℕ) → n ≡ ladder (callChecks t a) → n ≢ 0 → a ≡ putState t a bytes
   put-refused n e k = sym (refusals .put t a bytes (λ z. k (judge-refused n e k ∙ z)))

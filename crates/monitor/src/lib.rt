@@ -37,13 +37,13 @@ pub fn rest(book: &[u8]) -> &[u8]
 }
 
 // The checks that every call on tables, a history and levels starts with: 0 where they pass.
-fn checked(t: Tables, h: &[u8], l: &[u8]) -> u8
-    ensures { λ r. ⌜ r ≡ ladder (callChecks t (state (now (h .entry)) (now (l .entry)))) ⌝ }
+fn checked(t: Tables, h: &[u8], levels: &[u8]) -> u8
+    ensures { λ r. ⌜ r ≡ ladder (callChecks t (state (now (h .entry)) (now (levels .entry)))) ⌝ }
 {
     if h.len() != history::BYTES {
         return numbers::WRONG_LENGTH;
     }
-    if l.len() != levels::BYTES {
+    if levels.len() != levels::BYTES {
         return numbers::WRONG_LEVELS_LENGTH;
     }
     if rulebook::given(t) {
@@ -53,46 +53,46 @@ fn checked(t: Tables, h: &[u8], l: &[u8]) -> u8
 }
 
 // Makes a history blank, and stores each person's first level.
-pub fn blank(t: Tables, h: &mut [u8], l: &mut [u8]) -> u8
+pub fn blank(t: Tables, h: &mut [u8], levels: &mut [u8]) -> u8
     ensures { λ r. ⌜
-        (r ≡ blankNumber t (state (now (h .entry)) (now (l .entry))))
-        × (state (now (h .exit)) (now (l .exit)) ≡ blankState t (state (now (h .entry)) (now (l .entry))))
+        (r ≡ blankNumber t (state (now (h .entry)) (now (levels .entry))))
+        × (state (now (h .exit)) (now (levels .exit)) ≡ blankState t (state (now (h .entry)) (now (levels .entry))))
         ⌝ }
 {
-    let number = checked(t, h, l);
+    let number = checked(t, h, levels);
     if number != numbers::GRANTED {
         return number;
     }
     history::blank(h);
-    levels::set_first(t, l);
+    levels::set_first(t, levels);
     numbers::GRANTED
 }
 
 // Judges the request at the front of the bytes, and records nothing.
-pub fn judge(t: Tables, h: &[u8], l: &[u8], request: &[u8]) -> u8
-    ensures { λ r. ⌜ r ≡ judgeNumber t (state (now (h .entry)) (now (l .entry))) (now (request .entry)) ⌝ }
+pub fn judge(t: Tables, h: &[u8], levels: &[u8], request: &[u8]) -> u8
+    ensures { λ r. ⌜ r ≡ judgeNumber t (state (now (h .entry)) (now (levels .entry))) (now (request .entry)) ⌝ }
 {
-    let number = checked(t, h, l);
+    let number = checked(t, h, levels);
     if number != numbers::GRANTED {
         return number;
     }
     let words = packing::pack(t);
-    judging::judge_bytes(&words, h, l, request)
+    judging::judge_bytes(&words, h, levels, request)
 }
 
 // Judges the request at the front of the bytes; a granted one is recorded, and a granted read or step lowers its person's level.
-pub fn put(t: Tables, h: &mut [u8], l: &mut [u8], request: &[u8]) -> u8
+pub fn put(t: Tables, h: &mut [u8], levels: &mut [u8], request: &[u8]) -> u8
     ensures { λ r. ⌜
-        (r ≡ judgeNumber t (state (now (h .entry)) (now (l .entry))) (now (request .entry)))
-        × (state (now (h .exit)) (now (l .exit)) ≡ putState t (state (now (h .entry)) (now (l .entry))) (now (request .entry)))
+        (r ≡ judgeNumber t (state (now (h .entry)) (now (levels .entry))) (now (request .entry)))
+        × (state (now (h .exit)) (now (levels .exit)) ≡ putState t (state (now (h .entry)) (now (levels .entry))) (now (request .entry)))
         ⌝ }
 {
-    let number = checked(t, h, l);
+    let number = checked(t, h, levels);
     if number != numbers::GRANTED {
         return number;
     }
     let words = packing::pack(t);
-    let turn = running::put_next(&words, h, l, request);
+    let turn = running::put_next(&words, h, levels, request);
     turn.number
 }
 
@@ -108,13 +108,13 @@ fn no_run(number: u8) -> Ran
 }
 
 // Puts the requests of the bytes one after another, and writes one answer byte for each.
-pub fn run(t: Tables, h: &mut [u8], l: &mut [u8], requests: &[u8], answers: &mut [u8]) -> Ran
+pub fn run(t: Tables, h: &mut [u8], levels: &mut [u8], requests: &[u8], answers: &mut [u8]) -> Ran
     ensures { λ r. ⌜
-        RunIs t (state (now (h .entry)) (now (l .entry))) (now (requests .entry)) (now (answers .entry)) r
-        (state (now (h .exit)) (now (l .exit))) (now (answers .exit))
+        RunIs t (state (now (h .entry)) (now (levels .entry))) (now (requests .entry)) (now (answers .entry)) r
+        (state (now (h .exit)) (now (levels .exit))) (now (answers .exit))
         ⌝ }
 {
-    let number = checked(t, h, l);
+    let number = checked(t, h, levels);
     if number != numbers::GRANTED {
         return no_run(number);
     }
@@ -122,7 +122,7 @@ pub fn run(t: Tables, h: &mut [u8], l: &mut [u8], requests: &[u8], answers: &mut
         return no_run(numbers::TOO_FEW_ANSWERS);
     }
     let words = packing::pack(t);
-    let counts = running::run_ready(&words, h, l, requests, answers);
+    let counts = running::run_ready(&words, h, levels, requests, answers);
     Ran {
         number: numbers::GRANTED,
         granted: counts.granted,
@@ -143,10 +143,10 @@ fn no_standing(number: u8) -> Standing
 }
 
 // A person's stored level, the number of rights used and the number of firms opened.
-pub fn standing(t: Tables, h: &[u8], l: &[u8], person: u8) -> Standing
-    ensures { λ r. ⌜ r ≡ standingOf t (state (now (h .entry)) (now (l .entry))) person ⌝ }
+pub fn standing(t: Tables, h: &[u8], levels: &[u8], person: u8) -> Standing
+    ensures { λ r. ⌜ r ≡ standingOf t (state (now (h .entry)) (now (levels .entry))) person ⌝ }
 {
-    let number = checked(t, h, l);
+    let number = checked(t, h, levels);
     if number != numbers::GRANTED {
         return no_standing(number);
     }
@@ -158,7 +158,7 @@ pub fn standing(t: Tables, h: &[u8], l: &[u8], person: u8) -> Standing
     let did = past::past_of(&words, h, s, past::steps::stepped_by(h, s));
     Standing {
         number: numbers::GRANTED,
-        level: levels::entry(l, s),
+        level: levels::entry(levels, s),
         rights: bits::count64(did.rights),
         firms: bits::count64(did.firms),
     }

@@ -6,16 +6,15 @@ use mathlib.Core.Logic.{⊎-elim}
 use mathlib.Core.Bool.{true, false}
 use mathlib.Core.List.{List·Memᴰ, List·Memᴰ·not-nil, List·Memᴰ·cases-cons}
 use lib.ListN.{length}
-use borrow.Author.Tests.{eqb-true, eq-eqb}
 use Rattle.bits.proofs.Booleans.{false-intro}
 use Rattle.policy.specs.declared.Tables.{Tables}
 use Rattle.policy.specs.Tables.{personAt, personDeclared}
 use Rattle.policy.specs.Rulebook.{given}
 use Rattle.policy.specs.History.{historyBytes, zeros}
 use Rattle.policy.specs.Levels.{levelsBytes, levelAt, firstLevel, firstLevels}
-use Rattle.policy.specs.Calls.{State, state, callChecks, blankNumber, blankState}
+use Rattle.policy.specs.Calls.{State, state, blankNumber, blankState}
 use Rattle.policy.specs.Demands.{Blanks}
-use Rattle.policy.proofs.Ladders.{permit-none, permit-more, permit-first, permit-rest, ladder-zero, zero-ladder}
+use Rattle.policy.proofs.CallChecks.{taken, ready-passes}
 use Rattle.policy.proofs.Places.{sized-zeros}
 use Rattle.policy.proofs.LevelBytes.{holding-level, holding-first}
 use Rattle.policy.proofs.Requests.{person-below}
@@ -33,8 +32,8 @@ module _ (t : Tables) (a : State) (e : blankNumber t a ≡ 0) where
   blanked = rw e
 
   pub blank-held : length (a .levels) ≡ levelsBytes
-  unfolding blankNumber callChecks
-  blank-held = eqb-true _ levelsBytes (permit-first (permit-rest (ladder-zero _ refl e)))
+  unfolding blankNumber
+  blank-held = taken t a e .held
 
   -- the entry of each of the 64 persons: the first level of a declared one, and zero
   first-level : (s : ℕ) → s < 64 → levelAt (blankState t a .levels) s ≡ firstLevel t s
@@ -52,9 +51,8 @@ module _ (t : Tables) (a : State) (e : blankNumber t a ≡ 0) where
 
 blank-right : (t : Tables) (a : State) → given t ≡ true → length (a .history) ≡ historyBytes → length (a .levels) ≡ levelsBytes
     → blankNumber t a ≡ 0
-unfolding blankNumber callChecks
-blank-right t a ok size held =
-    zero-ladder _ (permit-more (eq-eqb _ historyBytes size) (permit-more (eq-eqb _ levelsBytes held) (permit-more ok permit-none)))
+unfolding blankNumber
+blank-right t a ok size held = ready-passes t a (record { size = size; held = held; tables = ok })
 
 pub blanks : Blanks
 unfolding levelAt

@@ -72,7 +72,7 @@ grants t a bytes rest r loads size held front parties =
     let ok = gives t .1 loads .1 in
     let is = front-request r rest front in
     let known = parties-declared t r .1 parties in
-    let same = judge-request t a bytes r ok (record { size = size; held = held }) is in
+    let same = judge-request t a bytes r (record { size = size; held = held; tables = ok }) is in
     let H = setOf (a .history) in
     let levels = levelAt (a .levels) in
     record {

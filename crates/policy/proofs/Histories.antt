@@ -9,7 +9,7 @@ use mathlib.Core.List.{List, [], _∷_, reverse, reverseAux, reverse-reverse}
 use mathlib.Core.Option.{Option, none, some}
 use lib.Dec.{eqb}
 use lib.ListN.{length}
-use borrow.Author.Tests.{eqb-true, eq-eqb}
+use borrow.Author.Tests.{eqb-true}
 use Rattle.bits.proofs.Booleans.{or-cases, or-left, or-right, bool-ext, or-swap, decide, false-elim}
 use Rattle.policy.specs.declared.Tables.{Tables}
 use Rattle.policy.specs.Checks.{ladder}
@@ -17,7 +17,7 @@ use Rattle.policy.specs.Tables.{personDeclared}
 use Rattle.policy.specs.Rulebook.{given}
 use Rattle.policy.specs.History.{historyBytes, zeros}
 use Rattle.policy.specs.Request.{Request, read, step, requestOf, setOf, recorded, same, member}
-use Rattle.policy.specs.Levels.{levelsBytes, levelAt, firstLevel, firstLevels, lowered}
+use Rattle.policy.specs.Levels.{levelAt, firstLevel, firstLevels, lowered}
 use Rattle.policy.specs.Rules.{declared, currentLevel}
 use Rattle.policy.specs.Calls.{
   State,
@@ -29,7 +29,6 @@ use Rattle.policy.specs.Calls.{
   judgeOver,
   addedIf,
   judgeList,
-  callChecks,
   judgeNumber,
   recordedIf,
   putState,
@@ -53,7 +52,7 @@ use Rattle.policy.proofs.Requests.{
 }
 use Rattle.policy.proofs.Places.{set-recorded, set-zeros, Sized, sized-zeros, sized-recorded, set-history}
 use Rattle.policy.proofs.Granted.{judge-passed, putOver, grantedOver}
-use Rattle.policy.proofs.Ladders.{permit-none, permit-more, permit-first, permit-rest, ladder-zero, ladder-after}
+use Rattle.policy.proofs.CallChecks.{Ready, taken, ready-then}
 use Rattle.policy.proofs.GivenEntries.{undeclared-person}
 use Rattle.policy.proofs.Lowering.{level-first}
 use Rattle.policy.proofs.LevelBytes.{Holding, holding-level, holding-ext, holding-one, holding-first}
@@ -61,19 +60,11 @@ use Rattle.policy.proofs.Held.{same-levels, holding-lowered}
 
 -- ---- judging
 
--- the lengths are right
-pub record Ready (a : State) : Type 0 where
-  pub size : length (a .history) ≡ historyBytes
-  pub held : length (a .levels) ≡ levelsBytes
-
 -- on tables that a load gives and buffers of the right lengths, judge is judging over the set and the stored levels
-pub judge-with : (t : Tables) (a : State) (bytes : List ℕ) → given t ≡ true → Ready a
+pub judge-with : (t : Tables) (a : State) (bytes : List ℕ) → Ready t a
     → judgeNumber t a bytes ≡ judgeWith t (setOf (a .history)) (levelAt (a .levels)) bytes
-unfolding judgeNumber judgeWith callChecks
-judge-with t a bytes g n =
-    ladder-after (callChecks t a) _
-    (permit-more (eq-eqb (length (a .history)) historyBytes (n .size))
-    (permit-more (eq-eqb (length (a .levels)) levelsBytes (n .held)) (permit-more g permit-none)))
+unfolding judgeNumber judgeWith
+judge-with t a bytes ready = ready-then t a _ ready
 
 -- ---- the same set
 
@@ -92,13 +83,6 @@ pub record InStep (t : Tables) (a : State) (g : List Request) : Type 0 where
   pub sized : Sized (a .history)
   pub holds : (r : Request) → setOf (a .history) r ≡ member g r
   pub current : Holding (currentLevel t (member g)) (a .levels)
-
--- what a call that is not refused was lent
-taken : (t : Tables) (a : State) → ladder (callChecks t a) ≡ 0 → (length (a .levels) ≡ levelsBytes) × (given t ≡ true)
-unfolding callChecks
-taken t a e =
-    let all = ladder-zero _ refl e in
-    (eqb-true _ levelsBytes (permit-first (permit-rest all)), permit-first (permit-rest (permit-rest all)))
 
 no-observed : (t : Tables) (s o : ℕ) → Observed t (member []) s o → ⊥
 no-observed t s o w =
@@ -121,8 +105,8 @@ stands-blank t a (before, n, e) =
       sized = sized-zeros;
       holds = λ r. set-zeros r ∙ sym (member-none r);
       current =
-          let (held, ok) = taken t before n in
-          holding-ext _ _ _ (λ s below. first-current t s ok below) (holding-first t (before .levels) held);
+          let ready = taken t before n in
+          holding-ext _ _ _ (λ s below. first-current t s (ready .tables) below) (holding-first t (before .levels) (ready .held));
     })
 
 -- the requests of the calls answered 0, in the order of the calls, are the same list the other way round
@@ -155,7 +139,7 @@ module _ (t : Tables) (ok : given t ≡ true) where
       → judgeNumber t a bytes ≡ judgeOver t (member g) bytes
   unfolding judgeOver
   judge-stands a g bytes s =
-      judge-with t a bytes ok (record { size = s .sized .size; held = s .current .size })
+      judge-with t a bytes (record { size = s .sized .size; held = s .current .size; tables = ok })
       ∙ ap (λ (H : Request → Bool). judgeWith t H (levelAt (a .levels)) bytes) (fun-ext (s .holds))
       ∙ same-levels t (levelAt (a .levels)) (currentLevel t (member g)) (λ u d. stored-levels a g s u (person-below t u d)) (member g) bytes
 
@@ -266,11 +250,11 @@ module _ (t : Tables) (ok : given t ≡ true) where
 
 -- ---- one put of a request that the bytes hold
 
-pub judge-request : (t : Tables) (a : State) (bytes : List ℕ) (r : Request) → given t ≡ true → Ready a → requestOf bytes ≡ some r
+pub judge-request : (t : Tables) (a : State) (bytes : List ℕ) (r : Request) → Ready t a → requestOf bytes ≡ some r
     → judgeNumber t a bytes ≡ ladder (requestChecks t (setOf (a .history)) (levelAt (a .levels)) (some r))
 unfolding judgeWith
-judge-request t a bytes r ok n is =
-    judge-with t a bytes ok n
+judge-request t a bytes r ready is =
+    judge-with t a bytes ready
     ∙ ap (λ (o : Option Request). ladder (requestChecks t (setOf (a .history)) (levelAt (a .levels)) o)) is
 
 -- where it is granted, put leaves the history with it, and the levels lowered by it

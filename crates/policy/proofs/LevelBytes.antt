@@ -85,7 +85,8 @@ holding-level levels l s h below =
     (h .bytes (2 * s) (omega arith) ∙ ap₂ (λ (k u : ℕ). byteOf k (levels u)) even own)
     (h .bytes (2 * s + 1) (omega arith) ∙ ap₂ (λ (k u : ℕ). byteOf k (levels u)) odd own′)
 
-pub holding-ext : (levels levels′ : ℕ → ℕ) (l : List ℕ) → ((s : ℕ) → s < 64 → levels s ≡ levels′ s) → Holding levels l → Holding levels′ l
+pub holding-ext : (levels levels′ : ℕ → ℕ) (l : List ℕ) → ((s : ℕ) → s < 64 → levels s ≡ levels′ s) → Holding levels l
+    → Holding levels′ l
 holding-ext levels levels′ l same h =
     record { size = h .size; bytes = λ i below. h .bytes i below ∙ ap (byteOf (i % 2)) (same (i / 2) (omega arith)) }
 

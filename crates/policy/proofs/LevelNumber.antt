@@ -16,7 +16,8 @@ use Rattle.policy.specs.Request.{Request, requestOf, setOf}
 use Rattle.policy.specs.Levels.{levelAt}
 use Rattle.policy.specs.Rules.{declared, lowWater, roles, pipeline}
 use Rattle.policy.specs.Calls.{State, judgeNumber}
-use Rattle.policy.proofs.WallNumber.{numberOf, sizeRight, heldRight, walled, afterWall, judgedNumber, judged-as}
+use Rattle.policy.proofs.CallChecks.{sizeRight, heldRight}
+use Rattle.policy.proofs.WallNumber.{numberOf, walled, afterWall, judgedNumber, judged-as}
 
 -- low-water, where it is in force
 unfoldable pub levelled : Tables → (ℕ → ℕ) → Request → Bool

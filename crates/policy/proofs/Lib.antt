@@ -7,6 +7,7 @@ pub mod Answers
 pub mod Fronts
 pub mod Turned
 pub mod Counts
+pub mod CallChecks
 pub mod PublishedNumbers
 pub mod Refusals
 pub mod Runs

@@ -79,10 +79,9 @@ use Rattle.policy.specs.Published.{Access, Accessed}
 use Rattle.policy.specs.PublicFolders.{SameButMarks, SameMark}
 use Rattle.policy.proofs.Accesses.{accessed-some}
 use Rattle.policy.proofs.Books.{gives}
+use Rattle.policy.proofs.CallChecks.{sizeRight, heldRight}
 use Rattle.policy.proofs.WallNumber.{
   numberOf,
-  sizeRight,
-  heldRight,
   afterWall,
   walled,
   judgedNumber,

@@ -18,10 +18,9 @@ use Rattle.policy.specs.Calls.{State, judgeNumber}
 use Rattle.policy.specs.Published.{NotPublic, Access}
 use Rattle.policy.specs.PublicFolders.{SameButPublic, PublicFolders}
 use Rattle.policy.proofs.Fronts.{front-request}
+use Rattle.policy.proofs.CallChecks.{sizeRight, heldRight}
 use Rattle.policy.proofs.WallNumber.{
   numberOf,
-  sizeRight,
-  heldRight,
   afterWall,
   walled,
   after-other,

@@ -13,7 +13,7 @@ use Rattle.policy.specs.declared.Tables.{Tables}
 use Rattle.policy.specs.declared.Loaded.{Loaded}
 use Rattle.policy.specs.declared.Ran.{Ran}
 use Rattle.policy.specs.declared.Standing.{Standing}
-use Rattle.policy.specs.Checks.{Check, ladder}
+use Rattle.policy.specs.Checks.{ladder}
 use Rattle.policy.specs.Rulebook.{
   bodyLength,
   recordOf,
@@ -41,7 +41,8 @@ use Rattle.policy.specs.Calls.{
 }
 use Rattle.policy.specs.Demands.{Numbers, Beginnings}
 use Rattle.bits.proofs.Booleans.{by-test}
-use Rattle.policy.proofs.Ladders.{numbered, ladder-first, first-ladder, refusal-front, ladder-member, all-stand-in}
+use Rattle.policy.proofs.Ladders.{numbered, ladder-member, all-stand-in}
+use Rattle.policy.proofs.CallChecks.{refused-first}
 
 -- ---- no check has the number 0
 
@@ -110,21 +111,18 @@ numbers =
 
 -- ---- the checks that every call begins with
 
-refused-first : (checks rest : List Check) → ladder checks ≢ 0 → ladder (checks ++ rest) ≡ ladder checks
-refused-first checks rest n = first-ladder (checks ++ rest) (ladder checks) (refusal-front rest (ladder-first checks n))
-
 module _ (t : Tables) (a : State) (n : blankNumber t a ≢ 0) where
   judge-first : (bytes : List ℕ) → judgeNumber t a bytes ≡ blankNumber t a
   unfolding judgeNumber blankNumber
-  judge-first bytes = refused-first (callChecks t a) _ n
+  judge-first bytes = refused-first t a _ n
 
   run-first : (requests answers : List ℕ) → runNumber t a requests answers ≡ blankNumber t a
   unfolding runNumber blankNumber
-  run-first requests answers = refused-first (callChecks t a) _ n
+  run-first requests answers = refused-first t a _ n
 
   standing-first : (s : ℕ) → standingNumber t a s ≡ blankNumber t a
   unfolding standingNumber blankNumber
-  standing-first s = refused-first (callChecks t a) _ n
+  standing-first s = refused-first t a _ n
 
 pub beginnings : Beginnings
 unfolding blankNumber callChecks ladder

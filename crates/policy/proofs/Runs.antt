@@ -13,7 +13,6 @@ use Rattle.bits.proofs.Booleans.{decide}
 use Rattle.policy.specs.declared.Tables.{Tables}
 use Rattle.policy.specs.Calls.{
   State,
-  callChecks,
   putState,
   putNumbers,
   callsOf,
@@ -27,7 +26,8 @@ use Rattle.policy.specs.Calls.{
 }
 use Rattle.policy.specs.Counting.{NumberOf}
 use Rattle.policy.specs.Demands.{Running, Runs}
-use Rattle.policy.proofs.Ladders.{permit-first, permit-rest, ladder-zero}
+use Rattle.policy.proofs.Ladders.{permit-first, ladder-zero}
+use Rattle.policy.proofs.CallChecks.{taken-then}
 use Rattle.policy.proofs.PublishedNumbers.{ran-number}
 use Rattle.policy.proofs.Turned.{turns-of, turns-once}
 use Rattle.policy.proofs.Counts.{count-number, granted-places, refused-places}
@@ -46,9 +46,9 @@ counted-once (n ∷ numbers) =
 
 -- there is room for the answers
 run-room : (t : Tables) (a : State) (requests answers : List ℕ) → runNumber t a requests answers ≡ 0 → answersDue requests ≤ length answers
-unfolding runNumber callChecks
+unfolding runNumber
 run-room t a requests answers e =
-    leb-true (answersDue requests) (length answers) (permit-first (permit-rest (permit-rest (permit-rest (ladder-zero _ refl e)))))
+    leb-true (answersDue requests) (length answers) (permit-first (ladder-zero _ refl (taken-then t a _ e .1)))
 
 -- the answers of a run whose checks pass are counted once, and there is room for them
 pub counts-fit : (t : Tables) (a : State) (requests answers : List ℕ) → runNumber t a requests answers ≡ 0

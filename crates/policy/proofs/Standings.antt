@@ -13,10 +13,11 @@ use Rattle.policy.specs.Rulebook.{given}
 use Rattle.policy.specs.Request.{Request, read, write, start, step, setOf}
 use Rattle.policy.specs.Rules.{declared, right, did, used, opened}
 use Rattle.policy.specs.Levels.{levelAt}
-use Rattle.policy.specs.Calls.{State, callChecks, standingNumber, standing}
+use Rattle.policy.specs.Calls.{State, standingNumber, standing}
 use Rattle.policy.specs.Published.{requester, rightOf, InHistory, Accessed}
 use Rattle.policy.specs.Demands.{Standings, Entries, Levels}
-use Rattle.policy.proofs.Ladders.{permit-first, permit-rest, ladder-zero}
+use Rattle.policy.proofs.Ladders.{permit-first, ladder-zero}
+use Rattle.policy.proofs.CallChecks.{Ready, taken-then}
 use Rattle.policy.proofs.Requests.{declared-place, declared-step}
 use Rattle.policy.proofs.Fronts.{is-person}
 use Rattle.policy.proofs.Accesses.{access-declared, some-request, request-some, did-in, in-did, opened-some, some-opened}
@@ -68,19 +69,19 @@ module _ (t : Tables) (ok : given t ≡ true) where
       some-opened t H s f o a (sym is),
     )
 
-standing-given : (t : Tables) (a : State) (s : ℕ) → standingNumber t a s ≡ 0 → given t ≡ true
-unfolding standingNumber callChecks
-standing-given t a s e = permit-first (permit-rest (permit-rest (ladder-zero _ refl e)))
+pub standing-ready : (t : Tables) (a : State) (s : ℕ) → standingNumber t a s ≡ 0 → Ready t a
+unfolding standingNumber
+standing-ready t a s e = taken-then t a _ e .0
 
 pub standing-person : (t : Tables) (a : State) (s : ℕ) → standingNumber t a s ≡ 0 → personDeclared t s ≡ true
-unfolding standingNumber callChecks
-standing-person t a s e = permit-first (permit-rest (permit-rest (permit-rest (ladder-zero _ refl e))))
+unfolding standingNumber
+standing-person t a s e = permit-first (ladder-zero _ refl (taken-then t a _ e .1))
 
 pub standings : Standings
 unfolding standing levelAt Used Opened
 standings t a s z =
     let e : standingNumber t a s ≡ 0 = sym (standing-number t a s) ∙ z in
-    let ok = standing-given t a s e in
+    let ok = standing-ready t a s e .tables in
     let H = setOf (a .history) in
     record {
       level = rw e;

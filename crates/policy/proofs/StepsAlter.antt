@@ -34,17 +34,17 @@ use Rattle.policy.specs.Calls.{
 use Rattle.policy.specs.Published.{LowWaterInForce, Observes, Observed}
 use Rattle.policy.specs.Causes.{recordBytes, PartiesDeclared}
 use Rattle.policy.specs.StepsAlter.{NotAtFront, LoweredBy, givenLevel, StepsAlter}
-use Rattle.policy.proofs.Ladders.{permit-none, permit-more, permit-first, permit-rest, ladder-zero, zero-ladder}
+use Rattle.policy.proofs.CallChecks.{sizeRight, heldRight, ready-passes}
 use Rattle.policy.proofs.Requests.{person-below, declared-person}
 use Rattle.policy.proofs.Places.{size-recorded, set-zeros}
 use Rattle.policy.proofs.Fronts.{front-request, request-front, parties-declared}
 use Rattle.policy.proofs.PublishedNumbers.{standing-number}
-use Rattle.policy.proofs.Standings.{standing-person}
+use Rattle.policy.proofs.Standings.{standing-ready, standing-person}
 use Rattle.policy.proofs.Refusals.{put-refused}
 use Rattle.policy.proofs.LevelBytes.{size-lowered, lowered-own, level-other as entry-other}
 use Rattle.policy.proofs.Histories.{put-state, added}
 use Rattle.policy.proofs.Blanks.{blanked, first-declared}
-use Rattle.policy.proofs.WallNumber.{sizeRight, heldRight, walled}
+use Rattle.policy.proofs.WallNumber.{walled}
 use Rattle.policy.proofs.LevelNumber.{
   levelled,
   afterLevel,
@@ -294,20 +294,11 @@ passed-over t a b s same = level-stays t (setOf h′) (setOf h) s (λ i. (there 
 
 -- ---- from blank
 
--- where standing is not refused, the checks of every call pass
-calls-pass : (t : Tables) (a : State) (s : ℕ) → standingNumber t a s ≡ 0 → ladder (callChecks t a) ≡ 0
-unfolding standingNumber callChecks
-calls-pass t a s e =
-    let all = ladder-zero _ refl e in
-    zero-ladder _
-    (permit-more (permit-first all)
-    (permit-more (permit-first (permit-rest all)) (permit-more (permit-first (permit-rest (permit-rest all))) permit-none)))
-
 blank-taken : (t : Tables) (a : State) (s : ℕ) → standingNumber t (blankState t a) s ≡ 0 → blankNumber t a ≡ 0
 unfolding blankState blankNumber
 blank-taken t a s e =
     ⊎-elim (λ y. eqb-true (ladder (callChecks t a)) 0 y)
-    (λ n. let left : standingNumber t a s ≡ 0 = rw n at e in calls-pass t a s left)
+    (λ n. let left : standingNumber t a s ≡ 0 = rw n at e in ready-passes t a (standing-ready t a s left))
     (decide (eqb (ladder (callChecks t a)) 0))
 
 -- a blank that is refused leaves buffers or tables on which standing is refused

@@ -7,30 +7,22 @@ use mathlib.Core.Logic.{_≢_}
 use mathlib.Core.Bool.{Bool, true, false, cond}
 use mathlib.Core.List.{[], _∷_, _++_}
 use mathlib.Core.Option.{Option, none, some}
-use lib.Dec.{eqb}
 use lib.ListN.{length}
 use Rattle.bits.specs.Bounded.{_implies_}
 use Rattle.policy.specs.declared.Tables.{Tables}
 use Rattle.policy.specs.Checks.{_else_, ladder}
 use Rattle.policy.specs.Tables.{inForce, wallRule, lowWaterRule, rolesRule, pipelineRule}
 use Rattle.policy.specs.Rulebook.{given}
-use Rattle.policy.specs.History.{historyBytes}
 use Rattle.policy.specs.Request.{Request, setOf}
-use Rattle.policy.specs.Levels.{levelsBytes, levelAt}
+use Rattle.policy.specs.Levels.{levelAt}
 use Rattle.policy.specs.Rules.{declared, wall, lowWater, roles, pipeline}
 use Rattle.policy.specs.Calls.{State, requestChecks, callChecks}
+use Rattle.policy.proofs.CallChecks.{sizeRight, heldRight}
 
 -- the number of the call's checks, of the parties, of the wall and of what comes after it
 abbrev pub numberOf : Bool → Bool → Bool → Bool → Bool → ℕ → ℕ
 numberOf size held given parties walled later =
     cond size (cond held (cond given (cond parties (cond walled later 14) 13) 11) 20) 10
-
--- the checks of the two lengths
-abbrev pub sizeRight : State → Bool
-sizeRight a = eqb (length (a .history)) historyBytes
-
-abbrev pub heldRight : State → Bool
-heldRight a = eqb (length (a .levels)) levelsBytes
 
 -- the number of the rules after the wall
 unfoldable pub afterWall : Tables → (Request → Bool) → (ℕ → ℕ) → Request → ℕ

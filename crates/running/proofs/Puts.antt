@@ -18,6 +18,7 @@ use Rattle.policy.specs.Rules.{declared}
 use Rattle.policy.specs.Calls.{State, state, judgeNumber, recordedIf, putState}
 use Rattle.policy.proofs.Requests.{person-below, folder-below, declared-person, declared-folder}
 use Rattle.policy.proofs.Granted.{checks-passed}
+use Rattle.policy.proofs.CallChecks.{Ready as CallReady}
 use Rattle.policy.proofs.Histories.{judge-with}
 use Rattle.request.specs.Parsed.{accessBy, nextAfter, nextRecord}
 use Rattle.judging.specs.Judging.{Ready, judged}
@@ -77,11 +78,14 @@ step-lowers t l s p o = refl
 -- ---- the request at the front of some bytes
 
 module _ (t : Tables) (h l bytes : List ℕ) (ready : Ready t h l) where
+  lent : CallReady t (state h l)
+  lent = record { size = ready .size; held = ready .held; tables = ready .tables }
+
   whole-number : {n : ℕ} (r : Request) → requestOf bytes ≡ some r → n ≡ judged t (setOf h) (levelAt l) r
       → n ≡ judgeNumber t (state h l) bytes
   whole-number r holds e =
       e ∙ judged-bytes t (setOf h) (levelAt l) bytes r holds
-      ∙ sym (judge-with t (state h l) bytes (ready .tables) (record { size = ready .size; held = ready .held }))
+      ∙ sym (judge-with t (state h l) bytes lent)
 
   pub put-turned : {n next : ℕ} {after : State} (r : Request) → requestOf bytes ≡ some r → Put t (state h l) r n after
       → next ≡ recordLength r → Turned t (state h l) bytes n next after
@@ -95,5 +99,5 @@ module _ (t : Tables) (h l bytes : List ℕ) (ready : Ready t h l) where
   cut-turned cut =
       let number : 12 ≡ judgeNumber t (state h l) bytes =
       sym (cut-bytes t (setOf h) (levelAt l) bytes cut)
-      ∙ sym (judge-with t (state h l) bytes (ready .tables) (record { size = ready .size; held = ready .held })) in
+      ∙ sym (judge-with t (state h l) bytes lent) in
       record { judgedAs = number; onward = rw cut; left = rw (← number) }

@@ -108,7 +108,7 @@ returns-3 c =
     (ap (personDeclared t) (sym own) ∙ sym is-person ∙ not-false _ (known .if2 .left))
     (gathered .past-of .result) (read .entry .result .0) (c .before .count64 .result) (c .count642 .result)
     (rw packed at (gathered .past-of .ensures) ∙ ap (pastOf t (setOf (now (start .args .h)))) own)
-    (read .entry .ensures ∙ ap (levelAt (now (start .args .l))) own)
+    (read .entry .ensures ∙ ap (levelAt (now (start .args .levels))) own)
     (c .before .count64 .ensures) (c .count642 .ensures)
 
 pub standing-spec : {M : Type 1} → statement M
