@@ -3,16 +3,20 @@
 use Prim.Native.Nat.{ℕ, _+_, _-_, _<_}
 use native.Mathlib.Omega.{arith}
 use mathlib.Core.Path.{_≡_, refl, sym, ap, _∙_}
-use mathlib.Core.Logic.{_≢_, _⊎_, inl, inr}
+use mathlib.Core.Logic.{_≢_, ⊎-elim}
 use mathlib.Core.Bool.{Bool, true, false, cond, not, _&&_, _||_, false≢true}
 use mathlib.Core.List.{List}
 use mathlib.Core.Option.{none, some}
+use lib.Dec.{eqb}
 use lib.ListN.{length, take}
 use borrow.Rule.Slice.PartAt.{part-to-end}
-use borrow.Author.Tests.{not-true, not-false}
+use borrow.Author.Tests.{eqb-true, not-true, not-false}
+use Rattle.bits.specs.Bits.{maskBelow}
 use Rattle.bits.specs.Bounded.{_implies_}
-use Rattle.bits.proofs.Booleans.{and-left, and-right, and-both, false-intro, false-elim}
-use Rattle.level.specs.Levels.{atMost}
+use Rattle.bits.proofs.Booleans.{and-left, and-right, and-both, false-intro, false-elim, decide}
+use Rattle.level.specs.declared.Comparison.{Comparison}
+use Rattle.level.specs.declared.Comparison.the-variants.{AtMost, RankTooLow, CompartmentMissing}
+use Rattle.level.specs.Levels.{compareOf, isAtMost}
 use Rattle.policy.specs.declared.Folder.{Folder}
 use Rattle.policy.specs.declared.Tables.{Tables}
 use Rattle.policy.specs.Checks.{ladder}
@@ -33,14 +37,17 @@ use Rattle.policy.specs.Rules.{
   right,
   wall,
   wallAccess,
-  mayModify,
+  used,
+  modifying,
+  levelOutcome,
   lowWater,
   roles,
   pipelineStep,
   pipeline,
 }
-use Rattle.policy.specs.Calls.{requestChecks, judgeWith}
+use Rattle.policy.specs.Calls.{outcomeNumber, requestChecks, judgeWith}
 use Rattle.policy.proofs.Requests.{declared-person, declared-step, declared-folder}
+use Rattle.policy.proofs.OutcomeNumbers.{refusal-number}
 use Rattle.past.specs.declared.Past.{Past}
 use Rattle.past.specs.Past.{pastOf}
 use Rattle.rules.specs.Sets.{wallBy, rolesBy}
@@ -50,11 +57,11 @@ use Rattle.request.specs.declared.Parsed.the-variants.{Nothing, Access, Start, 
 use Rattle.request.specs.Parsed.{accessBy, asRequest}
 use Rattle.judging.specs.Judging.{
   numberOf,
+  levelNumber,
   asksPast,
   asksLevel,
   isUnasked,
-  levelPasses,
-  startPasses,
+  accessOutcome,
   accessRight,
   accessNumber,
   startNumber,
@@ -71,51 +78,68 @@ pub implies-true : (b : Bool) → (b implies true) ≡ true
 implies-true true = refl
 implies-true false = refl
 
--- a rule that is not in force, or permits, lets pass
-pub passes : (b w : Bool) → ((b ≡ true) × (w ≡ true)) ⊎ (b ≡ false) → (b implies w) ≡ true
-passes b w (inl h) = rw (h .0) (h .1)
-passes b w (inr n) = rw n
-
 -- a test of two that does not fail
 pub known-both : (a b r : Bool) → r ≡ a && b → not r ≡ false → (a ≡ true) × (b ≡ true)
 known-both a b r e n = let both = sym e ∙ not-false r n in (and-left a b both, and-right a b both)
 
 -- ---- the three rules of an access
 
--- where all three permit
-pub number-none : (t : Tables) (w l r : Bool) → (inForce t wallRule implies w) ≡ true → (inForce t lowWaterRule implies l) ≡ true
-    → (inForce t rolesRule implies r) ≡ true → numberOf t w l r ≡ 0
-unfolding numberOf ladder
-number-none t w l r a b c = rw (a, b, c)
+-- where low-water does not ask, it has no number; where it asks, its number is that of the folder's level compared
+module _ (t : Tables) (o level : ℕ) where
+  pub not-asked : (modifies : Bool) → asksLevel t modifies ≡ false → levelNumber t (accessOutcome t o level modifies) ≡ 0
+  unfolding asksLevel accessOutcome levelNumber outcomeNumber
+  not-asked true e = rw e
+  not-asked false e = go (inForce t lowWaterRule)
+    where
+      go : (on : Bool) → _≡_ {A = ℕ} (cond on 0 0) 0
+      go true = refl
+      go false = refl
 
--- low-water alone, where the wall permits and roles are not in force
-pub number-alone : (t : Tables) (l r : Bool) → inForce t lowWaterRule ≡ true → inForce t rolesRule ≡ false
-    → numberOf t true l r ≡ cond l 0 15
-unfolding numberOf ladder
-number-alone t l r on off = rw (on, off, implies-true (inForce t wallRule))
+  pub asked : (modifies : Bool) {e : Folder} → asksLevel t modifies ≡ true → e ≡ folderAt t o
+      → levelNumber t (accessOutcome t o level modifies) ≡ outcomeNumber (compareOf 12 (e .level .0) level)
+  unfolding asksLevel accessOutcome levelNumber
+  asked true on entry = rw (on, entry)
+  asked false on entry = absurd (false≢true on)
 
--- without the wall and roles, low-water decides: an access that modifies the folder by the levels, and any other is granted
+-- after low-water's check come roles where its number is 0
+pub level-then : (t : Tables) (c : Comparison) (m : ℕ)
+    → cond (inForce t lowWaterRule implies isAtMost c) m (outcomeNumber c) ≡ cond (eqb (levelNumber t c) 0) m (levelNumber t c)
+unfolding levelNumber isAtMost outcomeNumber
+level-then t c m = go (inForce t lowWaterRule) c
+  where
+    go : (on : Bool) (c : Comparison)
+        → cond (on implies isAtMost c) m (outcomeNumber c) ≡ cond (eqb (cond on (outcomeNumber c) 0) 0) m (cond on (outcomeNumber c) 0)
+    go false c = refl
+    go true AtMost = refl
+    go true RankTooLow = refl
+    go true CompartmentMissing = refl
+
+-- so the number of all three is that of the wall, then low-water's, then that of roles
+pub three-numbers : (t : Tables) (w r : Bool) (c : Comparison)
+    → numberOf t w c r
+    ≡ cond (inForce t wallRule implies w)
+    (cond (eqb (levelNumber t c) 0) (cond (inForce t rolesRule implies r) 0 16) (levelNumber t c)) 14
+unfolding numberOf ladder
+three-numbers t w r c = ap (λ (n : ℕ). cond (inForce t wallRule implies w) n 14) (level-then t c _)
+
+-- without the wall and roles, low-water decides
 neither : (a b : Bool) → a || b ≡ false → (a ≡ false) × (b ≡ false)
 neither true b e = absurd (false≢true (sym e))
 neither false b e = (refl, e)
 
+own-number : (n : ℕ) → cond (eqb n 0) 0 n ≡ n
+own-number n = ⊎-elim (λ e. rw e (sym (eqb-true n 0 e))) (λ e. rw e) (decide (eqb n 0))
+
 module _ (t : Tables) (H : Request → Bool) (levels : ℕ → ℕ) (s o new : ℕ) (off : asksPast t ≡ false) where
-  level-decides : (writes : Bool)
-      → accessNumber t H levels s o new writes
-      ≡ cond (inForce t lowWaterRule implies (writes implies atMost 12 (folderAt t o .level .0) (levels s))) 0 15
-  unfolding asksPast accessNumber numberOf ladder
-  level-decides writes = let (a, b) = neither (inForce t wallRule) (inForce t rolesRule) off in rw (a, b)
+  pub level-decides : (modifies : Bool)
+      → accessNumber t H levels s o new modifies ≡ levelNumber t (accessOutcome t o (levels s) modifies)
+  unfolding asksPast accessNumber
+  level-decides modifies =
+      let (a, b) = neither (inForce t wallRule) (inForce t rolesRule) off in
+      three-numbers t _ _ _ ∙ rw (a, b) (own-number _)
 
-  pub unasked : (writes : Bool) → asksLevel t writes ≡ false → accessNumber t H levels s o new writes ≡ 0
-  unfolding asksLevel
-  unasked true n = level-decides true ∙ rw n
-  unasked false n = level-decides false ∙ rw (implies-true (inForce t lowWaterRule))
-
-  pub asked : (writes : Bool) {e : Folder} → asksLevel t writes ≡ true → e ≡ folderAt t o
-      → accessNumber t H levels s o new writes ≡ cond (atMost 12 (e .level .0) (levels s)) 0 15
-  unfolding asksLevel
-  asked true n same = level-decides true ∙ rw (n, same)
-  asked false n same = absurd (false≢true n)
+  pub unasked : (modifies : Bool) → asksLevel t modifies ≡ false → accessNumber t H levels s o new modifies ≡ 0
+  unasked modifies n = level-decides modifies ∙ not-asked t o (levels s) modifies n
 
 -- ---- a whole request
 
@@ -130,20 +154,20 @@ undeclared-step t s p o n =
     false-elim (personDeclared t s && folderDeclared t o) n (and-both _ _ (declared-person t s p o d) (declared-folder t s p o d)))
 
 -- the number of three tests, and another number where they all permit
-abbrev afterThree : Bool → Bool → Bool → ℕ → ℕ
-afterThree a b c n = cond a (cond b (cond c n 16) 15) 14
+abbrev afterThree : Bool → Bool → Bool → ℕ → ℕ → ℕ
+afterThree a b c k n = cond a (cond b (cond c n 16) k) 14
 
-after-zero : (a b c : Bool) (n : ℕ) → afterThree a b c 0 ≡ 0 → afterThree a b c n ≡ n
-after-zero true true true n z = refl
-after-zero true true false n z = let y : ⊥ = omega arith in absurd y
-after-zero true false c n z = let y : ⊥ = omega arith in absurd y
-after-zero false b c n z = let y : ⊥ = omega arith in absurd y
+after-zero : (a b c : Bool) (k n : ℕ) → (b ≡ false → k ≢ 0) → afterThree a b c k 0 ≡ 0 → afterThree a b c k n ≡ n
+after-zero true true true k n other z = refl
+after-zero true true false k n other z = let y : ⊥ = omega arith in absurd y
+after-zero true false c k n other z = absurd (other refl z)
+after-zero false b c k n other z = let y : ⊥ = omega arith in absurd y
 
-after-refusal : (a b c : Bool) (n : ℕ) → afterThree a b c 0 ≢ 0 → afterThree a b c n ≡ afterThree a b c 0
-after-refusal true true true n k = absurd (k refl)
-after-refusal true true false n k = refl
-after-refusal true false c n k = refl
-after-refusal false b c n k = refl
+after-refusal : (a b c : Bool) (k n : ℕ) → afterThree a b c k 0 ≢ 0 → afterThree a b c k n ≡ afterThree a b c k 0
+after-refusal true true true k n other = absurd (other refl)
+after-refusal true true false k n other = refl
+after-refusal true false c k n other = refl
+after-refusal false b c k n other = refl
 
 module _ (t : Tables) (H : Request → Bool) (levels : ℕ → ℕ) where
   pub not-declared : (r : Request) → declared t r ≡ false → judged t H levels r ≡ 13
@@ -152,73 +176,75 @@ module _ (t : Tables) (H : Request → Bool) (levels : ℕ → ℕ) where
 
   -- wall, low-water and roles decide where the pipeline passes
   by-three : (r : Request) → declared t r ≡ true → pipeline t H r ≡ true
-      → judged t H levels r ≡ numberOf t (wall t H r) (lowWater t levels r) (roles t H r)
-  unfolding judged requestChecks ladder numberOf
+      → judged t H levels r ≡ numberOf t (wall t H r) (levelOutcome t levels r) (roles t H r)
+  unfolding judged requestChecks ladder numberOf lowWater
   by-three r d p = rw (d, p, implies-true (inForce t pipelineRule))
 
   -- and before it
   pub then-pipeline : (s p o : ℕ) → declared t (step s p o) ≡ true
-      → numberOf t (wall t H (step s p o)) (lowWater t levels (step s p o)) (roles t H (step s p o)) ≡ 0
+      → numberOf t (wall t H (step s p o)) (levelOutcome t levels (step s p o)) (roles t H (step s p o)) ≡ 0
       → judged t H levels (step s p o) ≡ cond (inForce t pipelineRule implies pipelineStep t H p o) 0 17
-  unfolding judged requestChecks ladder numberOf pipeline
+  unfolding judged requestChecks ladder numberOf pipeline lowWater
   then-pipeline s p o d z =
       rw d
       (after-zero (inForce t wallRule implies wall t H (step s p o))
-      (inForce t lowWaterRule implies lowWater t levels (step s p o))
-      (inForce t rolesRule implies roles t H (step s p o))
-      (cond (inForce t pipelineRule implies pipelineStep t H p o) 0 17) z)
+      (inForce t lowWaterRule implies isAtMost (levelOutcome t levels (step s p o)))
+      (inForce t rolesRule implies roles t H (step s p o)) (outcomeNumber (levelOutcome t levels (step s p o)))
+      (cond (inForce t pipelineRule implies pipelineStep t H p o) 0 17)
+      (refusal-number (inForce t lowWaterRule) (levelOutcome t levels (step s p o))) z)
 
   pub before-pipeline : (s p o n : ℕ) → declared t (step s p o) ≡ true
-      → n ≡ numberOf t (wall t H (step s p o)) (lowWater t levels (step s p o)) (roles t H (step s p o)) → n ≢ 0
+      → n ≡ numberOf t (wall t H (step s p o)) (levelOutcome t levels (step s p o)) (roles t H (step s p o)) → n ≢ 0
       → judged t H levels (step s p o) ≡ n
-  unfolding judged requestChecks ladder numberOf
+  unfolding judged requestChecks ladder numberOf lowWater
   before-pipeline s p o n d e k =
       rw d
       (after-refusal (inForce t wallRule implies wall t H (step s p o))
-      (inForce t lowWaterRule implies lowWater t levels (step s p o))
-      (inForce t rolesRule implies roles t H (step s p o))
+      (inForce t lowWaterRule implies isAtMost (levelOutcome t levels (step s p o)))
+      (inForce t rolesRule implies roles t H (step s p o)) (outcomeNumber (levelOutcome t levels (step s p o)))
       (cond (inForce t pipelineRule implies pipeline t H (step s p o)) 0 17) (λ z. k (e ∙ z)))
       ∙ sym e
 
-  -- a start, by the answers of low-water and of roles over what the starter did
-  pub start-by : (s u : ℕ) {past : Past} {l r : Bool} → past ≡ pastOf t H s → l ≡ startPasses t levels s u
-      → r ≡ (inForce t rolesRule implies rolesBy t (past .rights) 32) → cond l (cond r 0 16) 15 ≡ startNumber t H levels s u
-  unfolding startNumber startPasses numberOf ladder pastOf
-  start-by s u e a b = rw (a, b, e, implies-true (inForce t wallRule))
+  -- a start, by the number of low-water and by roles over what the starter did
+  pub start-by : (s u n : ℕ) → n ≡ levelNumber t (compareOf 12 (levels u) (levels s))
+      → startNumber t H levels s u
+      ≡ cond (eqb n 0) (cond (inForce t rolesRule implies rolesBy t (maskBelow 64 (used t H s)) 32) 0 16) n
+  unfolding startNumber
+  start-by s u n is = three-numbers t true _ _ ∙ rw (implies-true (inForce t wallRule), is)
 
   module _ (ok : given t ≡ true) where
     -- an access, by the answers of wall, low-water and roles over what the person did
-    pub access-by : (s o new : ℕ) (modifies : Bool) {past : Past} {w l r : Bool} → folderDeclared t o ≡ true → past ≡ pastOf t H s
-        → w ≡ (inForce t wallRule implies wallBy t (past .counted) o) → l ≡ levelPasses t o (levels s) modifies
+    pub access-by : (s o new : ℕ) (modifies : Bool) {past : Past} {w r : Bool} {n : ℕ} → folderDeclared t o ≡ true → past ≡ pastOf t H s
+        → w ≡ (inForce t wallRule implies wallBy t (past .counted) o) → n ≡ levelNumber t (accessOutcome t o (levels s) modifies)
         → r ≡ (inForce t rolesRule implies rolesBy t (past .rights) new)
-        → cond w (cond l (cond r 0 16) 15) 14 ≡ accessNumber t H levels s o new modifies
-    unfolding accessNumber levelPasses numberOf ladder pastOf
-    access-by s o new modifies known e a b c = rw (a, b, c, e, wall-by t H s ok o known)
+        → cond w (cond (eqb n 0) (cond r 0 16) n) 14 ≡ accessNumber t H levels s o new modifies
+    unfolding accessNumber pastOf
+    access-by s o new modifies known e a b c = rw (a, b, c, e, wall-by t H s ok o known) (sym (three-numbers t _ _ _))
 
     pub access-number : (writes : Bool) (s o : ℕ) → personDeclared t s ≡ true → folderDeclared t o ≡ true
         → judged t H levels (accessBy writes s o) ≡ accessNumber t H levels s o (accessRight writes (folderAt t o .kind)) writes
-    unfolding accessBy accessRight accessNumber wall lowWater mayModify right pipeline subject declared
+    unfolding accessBy accessRight accessNumber accessOutcome wall levelOutcome modifying right pipeline subject declared
     access-number true s o p f =
         let d = and-both _ _ p f in
         by-three (write s o) d refl
-        ∙ ap (numberOf t (wallAccess t H s o) (atMost 12 (folderAt t o .level .0) (levels s)))
+        ∙ ap (numberOf t (wallAccess t H s o) (compareOf 12 (folderAt t o .level .0) (levels s)))
         (sym (roles-by t H s ok (write s o) d refl))
     access-number false s o p f =
         let d = and-both _ _ p f in
-        by-three (read s o) d refl ∙ ap (numberOf t (wallAccess t H s o) true) (sym (roles-by t H s ok (read s o) d refl))
+        by-three (read s o) d refl ∙ ap (numberOf t (wallAccess t H s o) AtMost) (sym (roles-by t H s ok (read s o) d refl))
 
     pub start-number : (s u : ℕ) → declared t (start s u) ≡ true → judged t H levels (start s u) ≡ startNumber t H levels s u
-    unfolding startNumber wall lowWater right pipeline subject
+    unfolding startNumber wall levelOutcome right pipeline subject
     start-number s u d =
         by-three (start s u) d refl
-        ∙ ap (numberOf t true (atMost 12 (levels u) (levels s))) (sym (roles-by t H s ok (start s u) d refl))
+        ∙ ap (numberOf t true (compareOf 12 (levels u) (levels s))) (sym (roles-by t H s ok (start s u) d refl))
 
     pub step-number : (s p o : ℕ) → declared t (step s p o) ≡ true
         → accessNumber t H levels s o (48 + p) true
-        ≡ numberOf t (wall t H (step s p o)) (lowWater t levels (step s p o)) (roles t H (step s p o))
-    unfolding accessNumber wall lowWater mayModify right subject
+        ≡ numberOf t (wall t H (step s p o)) (levelOutcome t levels (step s p o)) (roles t H (step s p o))
+    unfolding accessNumber accessOutcome wall levelOutcome modifying right subject
     step-number s p o d =
-        ap (numberOf t (wallAccess t H s o) (atMost 12 (folderAt t o .level .0) (levels s)))
+        ap (numberOf t (wallAccess t H s o) (compareOf 12 (folderAt t o .level .0) (levels s)))
         (roles-by t H s ok (step s p o) d refl)
 
 -- an access that no rule in force asks about

@@ -1,35 +1,27 @@
 // Judging one request (document 01, "Requests and calls"), on tables that a load gives, a history of 18,944 bytes and 128 bytes of levels:
-// the checks 12 to 17.
+// the checks 12 to 17, and 21 in the place of 15.
 ghost use mathlib.Core.Path.{_≡_};
-ghost use mathlib.Core.Bool.{true, false, cond, _&&_};
+ghost use mathlib.Core.Bool.{true, _&&_};
 ghost use Prim.Native.Nat.{_+_, _<_};
 ghost use lib.ListN.{length};
-ghost use Rattle.level.specs.Levels.{atMost};
+ghost use Rattle.bits.specs.Bits.{maskBelow};
 ghost use Rattle.policy.specs.Tables.{personDeclared, folderDeclared};
+ghost use Rattle.policy.specs.Rulebook.{given};
+ghost use Rattle.policy.specs.History.{historyBytes};
 ghost use Rattle.policy.specs.Request.{start, step, setOf};
-ghost use Rattle.policy.specs.Levels.{levelsBytes, levelAt};
+ghost use Rattle.policy.specs.Levels.{levelAt};
+ghost use Rattle.policy.specs.Rules.{used};
 ghost use Rattle.policy.specs.Calls.{judgeWith};
 ghost use Rattle.packed.specs.Packed.{tablesOf};
+ghost use Rattle.rules.specs.Sets.{rolesBy};
 ghost use Rattle.request.specs.Parsed.{accessBy};
-ghost use Rattle.judging.specs.Judging.{Ready, isUnasked, accessRight, accessNumber, startNumber, judged};
-use level::Level;
+ghost use Rattle.judging.specs.Judging.{Ready, isUnasked, accessRight, accessNumber, judged};
 use packed::Words;
 use past::steps;
 use policy::numbers;
 use request::Parsed;
 
 mod passing;
-
-// Low-water alone: whether a level is at most the stored level of person s.
-fn judge_level(l: &[u8], s: usize, level: Level) -> u8
-    requires { ⌜ (length (now l) ≡ levelsBytes) × (s < 64) ⌝ }
-    ensures { λ r. ⌜ r ≡ cond (atMost 12 (level .0) (levelAt (now (l .entry)) s)) 0 15 ⌝ }
-{
-    if level.compare(levels::entry(l, s)) {
-        return numbers::GRANTED;
-    }
-    numbers::LOW_WATER
-}
 
 // Wall, low-water and roles for an access by person s to folder o, by what the person did and the person's stored level.
 fn judge_past(t: &Words, h: &[u8], l: &[u8], s: usize, o: usize, right: usize, modifies: bool) -> u8
@@ -43,8 +35,9 @@ fn judge_past(t: &Words, h: &[u8], l: &[u8], s: usize, o: usize, right: usize, m
     if !passing::wall_passes(t, did.counted, o) {
         return numbers::WALL;
     }
-    if !passing::level_passes(t, l, s, o, modifies) {
-        return numbers::LOW_WATER;
+    let n = passing::level_number(t, l, s, o, modifies);
+    if n != numbers::GRANTED {
+        return n;
     }
     if !passing::roles_pass(t, did.rights, right) {
         return numbers::ROLES;
@@ -71,12 +64,7 @@ fn judge_rules(
     if passing::asks_past(t) {
         return judge_past(t, h, l, s, o, right, modifies);
     }
-    if !passing::asks_level(t, modifies) {
-        return numbers::GRANTED;
-    }
-    let folder = packed::folder(t, o);
-    let level = folder.level;
-    judge_level(l, s, level)
+    passing::level_number(t, l, s, o, modifies)
 }
 
 // Whether person s and folder o are declared.
@@ -162,25 +150,20 @@ fn are_persons(t: &Words, s: usize, u: usize) -> bool
     false
 }
 
-// Low-water and roles for a start of person u by person s.
-fn judge_start_past(t: &Words, h: &[u8], l: &[u8], s: usize, u: usize) -> u8
+// Roles for a start by person s, over all that the person did.
+fn start_covered(t: &Words, h: &[u8], s: usize) -> bool
     requires { ⌜
-        Ready (tablesOf (now t)) (now h) (now l) × (personDeclared (tablesOf (now t)) s ≡ true)
-        × (personDeclared (tablesOf (now t)) u ≡ true)
+        (given (tablesOf (now t)) ≡ true) × (length (now h) ≡ historyBytes) × (personDeclared (tablesOf (now t)) s ≡ true)
         ⌝ }
-    ensures { λ r. ⌜ r ≡ startNumber (tablesOf (now (t .entry))) (setOf (now (h .entry))) (levelAt (now (l .entry))) s u ⌝ }
+    ensures { λ r. ⌜
+        r ≡ rolesBy (tablesOf (now (t .entry))) (maskBelow 64 (used (tablesOf (now (t .entry))) (setOf (now (h .entry))) s)) 32
+        ⌝ }
 {
-    if !passing::start_passes(t, l, s, u) {
-        return numbers::LOW_WATER;
-    }
     let did = past::past_of(t, h, s, steps::stepped_by(h, s));
-    if !passing::roles_pass(t, did.rights, 32) {
-        return numbers::ROLES;
-    }
-    numbers::GRANTED
+    rules::roles_permit(t, did.rights, 32)
 }
 
-// A start of person u by person s. The history is lent on as a part, as in `judge_access`.
+// A start of person u by person s: low-water, then roles. The history is lent on as a part, as in `judge_access`.
 pub fn judge_start(t: &Words, h: &[u8], l: &[u8], s: usize, u: usize) -> u8
     requires { ⌜ Ready (tablesOf (now t)) (now h) (now l) ⌝ }
     ensures { λ r. ⌜ r ≡ judged (tablesOf (now (t .entry))) (setOf (now (h .entry))) (levelAt (now (l .entry))) (start s u) ⌝ }
@@ -188,13 +171,17 @@ pub fn judge_start(t: &Words, h: &[u8], l: &[u8], s: usize, u: usize) -> u8
     if !are_persons(t, s, u) {
         return numbers::UNDECLARED;
     }
-    if packed::in_force(t, policy::ROLES_RULE) {
-        return judge_start_past(t, &h[0..], l, s, u);
+    let n = passing::start_number(t, l, s, u);
+    if n != numbers::GRANTED {
+        return n;
     }
-    if !packed::in_force(t, policy::LOW_WATER_RULE) {
+    if !packed::in_force(t, policy::ROLES_RULE) {
         return numbers::GRANTED;
     }
-    judge_level(l, s, levels::entry(l, u))
+    if start_covered(t, &h[0..], s) {
+        return numbers::GRANTED;
+    }
+    numbers::ROLES
 }
 
 // Whether a read of folder o by person s, or a write, is granted with no look at what the person did: no rule in force asks about it.

@@ -1,15 +1,21 @@
 // What each rule says if it is in force, and whether it asks at all: a rule that is not in force refuses nothing.
 ghost use mathlib.Core.Path.{_≡_};
 ghost use mathlib.Core.Bool.{true};
+ghost use Prim.Native.Nat.{_<_};
 ghost use lib.ListN.{length};
 ghost use Rattle.bits.specs.Bounded.{_implies_};
+ghost use Rattle.level.specs.Levels.{compareOf};
 ghost use Rattle.policy.specs.Tables.{personDeclared, folderDeclared, inForce, wallRule, rolesRule};
 ghost use Rattle.policy.specs.Rulebook.{given};
 ghost use Rattle.policy.specs.Levels.{levelsBytes, levelAt};
+ghost use Rattle.policy.specs.Calls.{outcomeNumber};
 ghost use Rattle.packed.specs.Packed.{tablesOf};
 ghost use Rattle.rules.specs.Sets.{wallBy, rolesBy};
-ghost use Rattle.judging.specs.Judging.{asksPast, asksLevel, levelPasses, startPasses};
+ghost use Rattle.judging.specs.Judging.{asksPast, asksLevel, levelNumber, accessOutcome};
+use level::Comparison;
+use level::Level;
 use packed::Words;
+use policy::numbers;
 
 // Whether the wall or roles are in force. Only these two ask for all that a person did.
 pub fn asks_past(t: &Words) -> bool
@@ -44,19 +50,34 @@ pub fn wall_passes(t: &Words, counted: u64, o: usize) -> bool
     true
 }
 
-// Whether low-water, if it asks, permits person s, by the stored level, an access to folder o.
-pub fn level_passes(t: &Words, l: &[u8], s: usize, o: usize, modifies: bool) -> bool
+// The number of low-water for a level that is to be at most the stored level of person s, by the outcome of comparing the two.
+fn compared_number(l: &[u8], s: usize, level: Level) -> u8
+    requires { ⌜ (length (now l) ≡ levelsBytes) × (s < 64) ⌝ }
+    ensures { λ r. ⌜ r ≡ outcomeNumber (compareOf 12 (level .0) (levelAt (now (l .entry)) s)) ⌝ }
+{
+    let outcome = level.compare(levels::entry(l, s));
+    match outcome {
+        Comparison::AtMost => numbers::GRANTED,
+        Comparison::RankTooLow => numbers::RANK_TOO_LOW,
+        Comparison::CompartmentMissing => numbers::COMPARTMENT_MISSING,
+    }
+}
+
+// The number of low-water, if it asks, for an access to folder o by person s, by the stored level.
+pub fn level_number(t: &Words, l: &[u8], s: usize, o: usize, modifies: bool) -> u8
     requires { ⌜
         (length (now l) ≡ levelsBytes) × (personDeclared (tablesOf (now t)) s ≡ true) × (folderDeclared (tablesOf (now t)) o ≡ true)
         ⌝ }
-    ensures { λ r. ⌜ r ≡ levelPasses (tablesOf (now (t .entry))) o (levelAt (now (l .entry)) s) modifies ⌝ }
+    ensures { λ r. ⌜
+        r ≡ levelNumber (tablesOf (now (t .entry))) (accessOutcome (tablesOf (now (t .entry))) o (levelAt (now (l .entry)) s) modifies)
+        ⌝ }
 {
     if !asks_level(t, modifies) {
-        return true;
+        return numbers::GRANTED;
     }
     let folder = packed::folder(t, o);
     let level = folder.level;
-    level.compare(levels::entry(l, s))
+    compared_number(l, s, level)
 }
 
 // Whether roles, if they are in force, permit a right to a person who used these.
@@ -71,17 +92,17 @@ pub fn roles_pass(t: &Words, used: u64, right: usize) -> bool
     true
 }
 
-// Whether low-water, if it is in force, permits a start of person u by person s, by the stored levels of both.
-pub fn start_passes(t: &Words, l: &[u8], s: usize, u: usize) -> bool
+// The number of low-water, if it is in force, for a start of person u by person s, by the stored levels of both.
+pub fn start_number(t: &Words, l: &[u8], s: usize, u: usize) -> u8
     requires { ⌜
         (length (now l) ≡ levelsBytes) × (personDeclared (tablesOf (now t)) s ≡ true) × (personDeclared (tablesOf (now t)) u ≡ true)
         ⌝ }
-    ensures { λ r. ⌜ r ≡ startPasses (tablesOf (now (t .entry))) (levelAt (now (l .entry))) s u ⌝ }
+    ensures { λ r. ⌜
+        r ≡ levelNumber (tablesOf (now (t .entry))) (compareOf 12 (levelAt (now (l .entry)) u) (levelAt (now (l .entry)) s))
+        ⌝ }
 {
     if !packed::in_force(t, policy::LOW_WATER_RULE) {
-        return true;
+        return numbers::GRANTED;
     }
-    let own = levels::entry(l, s);
-    let other = levels::entry(l, u);
-    other.compare(own)
+    compared_number(l, s, levels::entry(l, u))
 }

@@ -13,6 +13,7 @@ use borrow.Author.Tests.{le-leb, leb-true, eq-eqb, eqb-true}
 use Rattle.bits.proofs.Booleans.{and-left, and-right, and-both, bool-ext}
 use Rattle.bits.proofs.BitLaws.{and-assoc}
 use Rattle.level.specs.Levels.{rankOf, compartmentsOf, levelOf, atMost, meetOf}
+use Rattle.level.proofs.Comparing.{at-most-tests}
 
 -- ---- a level and its parts
 
@@ -44,19 +45,16 @@ common-lt w a b = lt-of-le-of-lt (and-le-l (compartmentsOf w a) (compartmentsOf 
 -- ---- the order, as two facts
 
 pub atMost-rank : (w a b : ℕ) → atMost w a b ≡ true → rankOf w a ≤ rankOf w b
-unfolding atMost
-atMost-rank w a b e = leb-true _ _ (and-left _ _ e)
+atMost-rank w a b e = leb-true _ _ (and-left _ _ (sym (at-most-tests w a b) ∙ e))
 
 pub atMost-subset : (w a b : ℕ) → atMost w a b ≡ true
     → bitAnd (compartmentsOf w a) (compartmentsOf w b) ≡ compartmentsOf w a
-unfolding atMost
-atMost-subset w a b e = eqb-true _ _ (and-right (leb (rankOf w a) (rankOf w b)) _ e)
+atMost-subset w a b e = eqb-true _ _ (and-right (leb (rankOf w a) (rankOf w b)) _ (sym (at-most-tests w a b) ∙ e))
 
 pub atMost-intro : (w a b : ℕ) → rankOf w a ≤ rankOf w b
     → bitAnd (compartmentsOf w a) (compartmentsOf w b) ≡ compartmentsOf w a
     → atMost w a b ≡ true
-unfolding atMost
-atMost-intro w a b ranks subset = and-both _ _ (le-leb _ _ ranks) (eq-eqb _ _ subset)
+atMost-intro w a b ranks subset = at-most-tests w a b ∙ and-both _ _ (le-leb _ _ ranks) (eq-eqb _ _ subset)
 
 -- ---- a partial order
 

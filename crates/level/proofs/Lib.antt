@@ -1,3 +1,4 @@
+pub mod Comparing
 pub mod LevelLaws
 pub mod OrderLaws
 pub mod Meets

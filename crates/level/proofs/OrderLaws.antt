@@ -4,6 +4,7 @@ use Rattle.bits.specs.Bits.{bit}
 use Rattle.bits.proofs.BitLaws.{bit-and, subset-bit, bit-subset}
 use Rattle.level.specs.Levels.{compartmentsOf}
 use Rattle.level.specs.Order.{Order}
+use Rattle.level.proofs.Comparing.{compared-below, compared-rank, compared-compartment}
 use Rattle.level.proofs.LevelLaws.{
   level-whole,
   rank-level,
@@ -38,6 +39,9 @@ order w =
             atMost-intro w a b (h .0)
             (bit-subset w (compartmentsOf w a) (compartmentsOf w b) (compartments-lt w a) (λ k l. h .1 k)),
       );
+      comparedBelow = λ a b. compared-below w a b;
+      comparedRank = λ a b. compared-rank w a b;
+      comparedCompartment = λ a b. compared-compartment w a b (compartments-lt w a);
       reflexive = atMost-refl w;
       transitive = atMost-trans w;
       antisymmetric = atMost-antisym w;

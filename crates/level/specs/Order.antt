@@ -2,9 +2,10 @@
 use Prim.Native.Nat.{ℕ, _+_, _-_, _^_, _≤_, _<_, min}
 use mathlib.Core.Path.{_≡_}
 use mathlib.Core.Logic.{_↔_}
-use mathlib.Core.Bool.{true, _&&_}
+use mathlib.Core.Bool.{true, false, _&&_}
 use Rattle.bits.specs.Bits.{bit}
-use Rattle.level.specs.Levels.{rankOf, compartmentsOf, levelOf, atMost, meetOf}
+use Rattle.level.specs.declared.Comparison.the-variants.{AtMost, RankTooLow, CompartmentMissing}
+use Rattle.level.specs.Levels.{rankOf, compartmentsOf, levelOf, compareOf, atMost, meetOf}
 
 pub record Ordered (w : ℕ) : Type 0 where
   -- a level is its rank and its compartments, which are the w low bits
@@ -16,6 +17,15 @@ pub record Ordered (w : ℕ) : Type 0 where
       (a b : ℕ)
       → (atMost w a b ≡ true)
       ↔ ((rankOf w a ≤ rankOf w b) × ((k : ℕ) → bit (compartmentsOf w a) k ≡ true → bit (compartmentsOf w b) k ≡ true))
+  -- comparing tells three outcomes (document 02, Point 5): a ≤ b; the rank of b is too low, also if a compartment is missing besides; the
+  -- rank of b suffices, and some compartment of a is not in b
+  pub comparedBelow : (a b : ℕ) → (compareOf w a b ≡ AtMost) ↔ (atMost w a b ≡ true)
+  pub comparedRank : (a b : ℕ) → (compareOf w a b ≡ RankTooLow) ↔ (rankOf w b < rankOf w a)
+  pub comparedCompartment :
+      (a b : ℕ)
+      → (compareOf w a b ≡ CompartmentMissing)
+      ↔ ((rankOf w a ≤ rankOf w b)
+      × ((k : ℕ) × (bit (compartmentsOf w a) k ≡ true) × (bit (compartmentsOf w b) k ≡ false)))
   pub reflexive : (a : ℕ) → atMost w a a ≡ true
   pub transitive : (a b c : ℕ) → atMost w a b ≡ true → atMost w b c ≡ true → atMost w a c ≡ true
   pub antisymmetric : (a b : ℕ) → atMost w a b ≡ true → atMost w b a ≡ true → a ≡ b

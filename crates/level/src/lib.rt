@@ -1,7 +1,7 @@
 // Levels (document 01, "Levels"): a rank of 4 bits above a set of 12 compartments, in the 16 bits of a number.
 ghost use mathlib.Core.Path.{_≡_};
 ghost use Prim.Native.Nat.{_%_, min};
-ghost use Rattle.level.specs.Levels.{rankOf, compartmentsOf, levelOf, atMost, meetOf};
+ghost use Rattle.level.specs.Levels.{rankOf, compartmentsOf, levelOf, compareOf, meetOf};
 
 // The smaller of two numbers.
 fn smaller(a: u16, b: u16) -> u16
@@ -14,6 +14,16 @@ fn smaller(a: u16, b: u16) -> u16
 }
 
 pub struct Level(pub u16);
+
+// How a level compares with another one, which is to be at least as high.
+pub enum Comparison {
+    // It is at most the other.
+    AtMost,
+    // The other's rank is too low, also if a compartment is missing besides.
+    RankTooLow,
+    // The other's rank suffices, and a compartment is missing.
+    CompartmentMissing,
+}
 
 impl Level {
     // Rank 0 and no compartment: at most every level.
@@ -42,13 +52,19 @@ impl Level {
         self.0 & 0xfff
     }
 
-    // True exactly where self ≤ other: the rank is at most the other's, and every compartment is one of the other's.
-    pub fn compare(self, other: Level) -> bool
-        ensures { λ r. ⌜ r ≡ atMost 12 (self .0) (other .0) ⌝ }
+    // How self compares with other: at most it where the rank is at most the other's and every compartment is one of the other's.
+    pub fn compare(self, other: Level) -> Comparison
+        ensures { λ r. ⌜ r ≡ compareOf 12 (self .0) (other .0) ⌝ }
     {
+        if self.rank() > other.rank() {
+            return Comparison::RankTooLow;
+        }
         let own = self.compartments();
         let others = other.compartments();
-        self.rank() <= other.rank() && own & others == own
+        if own & others != own {
+            return Comparison::CompartmentMissing;
+        }
+        Comparison::AtMost
     }
 
     // The highest level that is at most both: the smaller rank, compared in its place above the compartments, and the common compartments.

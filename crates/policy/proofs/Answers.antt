@@ -46,6 +46,11 @@ one-row {check} {cause} {checks} same w rest =
       );
     }
 
+-- a check that permits, and for which there is no cause
+pub passed-row : {check : Check} {checks : List Check} {causes : List Cause} → check .permits ≡ true → Numbered checks causes
+    → Numbered (check ∷ checks) causes
+passed-row {check} {checks} t rest = record { number = λ n. rw (ladder-permits check checks t) (rest .number n) }
+
 -- a cause that does not hold, and for which there is no check
 pub no-row : {cause : Cause} {checks : List Check} {causes : List Cause} → (cause .holds → ⊥) → Numbered checks causes
     → Numbered checks (cause ∷ causes)

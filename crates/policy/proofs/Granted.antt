@@ -1,6 +1,6 @@
 -- A request is granted exactly where it is whole and every check of it passes: each step of the ladder leads on only where its check
 -- permits. A put then adds the request to the granted ones, and changes nothing otherwise.
-use Prim.Native.Nat.{ℕ, suc}
+use Prim.Native.Nat.{ℕ}
 use native.Mathlib.Omega.{arith}
 use mathlib.Core.Path.{_≡_, refl, ap, _∙_}
 use mathlib.Core.Logic.{_≢_}
@@ -14,8 +14,9 @@ use Rattle.policy.specs.declared.Tables.{Tables}
 use Rattle.policy.specs.Checks.{ladder}
 use Rattle.policy.specs.Tables.{inForce, wallRule, lowWaterRule, rolesRule, pipelineRule}
 use Rattle.policy.specs.Request.{Request, requestOf, member}
-use Rattle.policy.specs.Rules.{declared, wall, lowWater, currentLevel, roles, pipeline}
+use Rattle.policy.specs.Rules.{declared, wall, levelOutcome, lowWater, currentLevel, roles, pipeline}
 use Rattle.policy.specs.Calls.{requestChecks, judgeWith, judgeOver, addedIf, judgeList}
+use Rattle.policy.proofs.OutcomeNumbers.{refusal-number}
 
 -- every check of a request passes
 pub record Passed (t : Tables) (H : Request → Bool) (levels : ℕ → ℕ) (r : Request) : Type 0 where
@@ -29,9 +30,10 @@ pub record Passed (t : Tables) (H : Request → Bool) (levels : ℕ → ℕ) (r 
 abbrev pub PassedOver : Tables → (Request → Bool) → Request → Type 0
 PassedOver t H r = Passed t H (currentLevel t H) r
 
-cond-zero : (c : Bool) (n m : ℕ) → cond c m (suc n) ≡ 0 → (c ≡ true) × (m ≡ 0)
-cond-zero true n m e = (refl, e)
-cond-zero false n m e = let z : ⊥ = omega arith in absurd z
+-- a test whose refusal has a number other than 0
+cond-zero : (c : Bool) (n m : ℕ) → (c ≡ false → n ≢ 0) → cond c m n ≡ 0 → (c ≡ true) × (m ≡ 0)
+cond-zero true n m other e = (refl, e)
+cond-zero false n m other e = absurd (other refl e)
 
 zero-cond : (c : Bool) (n m : ℕ) → c ≡ true → m ≡ 0 → cond c m n ≡ 0
 zero-cond true n m p e = e
@@ -39,13 +41,14 @@ zero-cond false n m p e = absurd (false≢true p)
 
 module _ (t : Tables) (H : Request → Bool) (levels : ℕ → ℕ) where
   pub checks-passed : (r : Request) → ladder (requestChecks t H levels (some r)) ≡ 0 → Passed t H levels r
-  unfolding ladder requestChecks
+  unfolding ladder requestChecks lowWater
   checks-passed r e =
-      let a = cond-zero (declared t r) 12 _ e in
-      let b = cond-zero (inForce t wallRule implies wall t H r) 13 _ (a .1) in
-      let c = cond-zero (inForce t lowWaterRule implies lowWater t levels r) 14 _ (b .1) in
-      let d = cond-zero (inForce t rolesRule implies roles t H r) 15 _ (c .1) in
-      let f = cond-zero (inForce t pipelineRule implies pipeline t H r) 16 _ (d .1) in
+      let a = cond-zero (declared t r) 13 _ (λ f. omega arith) e in
+      let b = cond-zero (inForce t wallRule implies wall t H r) 14 _ (λ f. omega arith) (a .1) in
+      let refusal = refusal-number (inForce t lowWaterRule) (levelOutcome t levels r) in
+      let c = cond-zero (inForce t lowWaterRule implies lowWater t levels r) _ _ refusal (b .1) in
+      let d = cond-zero (inForce t rolesRule implies roles t H r) 16 _ (λ f. omega arith) (c .1) in
+      let f = cond-zero (inForce t pipelineRule implies pipeline t H r) 17 _ (λ f. omega arith) (d .1) in
       record { parties = a .0; walled = b .0; levelled = c .0; covered = d .0; piped = f .0 }
 
   pub passed-checks : (r : Request) → Passed t H levels r → ladder (requestChecks t H levels (some r)) ≡ 0
@@ -53,7 +56,7 @@ module _ (t : Tables) (H : Request → Bool) (levels : ℕ → ℕ) where
   passed-checks r p =
       zero-cond (declared t r) 13 _ (p .parties)
       (zero-cond (inForce t wallRule implies wall t H r) 14 _ (p .walled)
-      (zero-cond (inForce t lowWaterRule implies lowWater t levels r) 15 _ (p .levelled)
+      (zero-cond (inForce t lowWaterRule implies lowWater t levels r) _ _ (p .levelled)
       (zero-cond (inForce t rolesRule implies roles t H r) 16 _ (p .covered)
       (zero-cond (inForce t pipelineRule implies pipeline t H r) 17 _ (p .piped) refl))))
 

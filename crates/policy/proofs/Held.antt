@@ -8,13 +8,13 @@ use mathlib.Core.Bool.{Bool, true}
 use mathlib.Core.List.{List}
 use mathlib.Core.Option.{Option, none, some}
 use Rattle.bits.proofs.Booleans.{and-left, and-right, decide}
-use Rattle.level.specs.Levels.{atMost, meetOf}
+use Rattle.level.specs.Levels.{compareOf, isAtMost, atMost, meetOf}
 use Rattle.policy.specs.declared.Tables.{Tables}
 use Rattle.policy.specs.Checks.{_else_, ladder}
 use Rattle.policy.specs.Tables.{folderAt, personDeclared}
 use Rattle.policy.specs.Request.{Request, read, write, start, step, requestOf, setOf}
 use Rattle.policy.specs.Levels.{levelAt, metWith, lowered}
-use Rattle.policy.specs.Rules.{declared, currentLevel, mayModify, lowWater}
+use Rattle.policy.specs.Rules.{declared, currentLevel, modifying, levelOutcome, lowWater}
 use Rattle.policy.specs.Calls.{State, requestChecks, judgeWith}
 use Rattle.policy.specs.Published.{Observes, IsCurrentLevel, LowWater, LowWaterHeld}
 use Rattle.policy.specs.Held.{HoldsCurrent}
@@ -28,7 +28,7 @@ use Rattle.policy.proofs.LevelBytes.{Holding, holding-level, holding-ex
 -- ---- the rule
 
 pub low-water-held : (t : Tables) (l : List ℕ) (r : Request) → (lowWater t (levelAt l) r ≡ true) ↔ LowWaterHeld t l r
-unfolding lowWater mayModify levelAt
+unfolding lowWater levelOutcome modifying isAtMost atMost levelAt
 low-water-held t l (read s o) = (λ e. tt, λ w. refl)
 low-water-held t l (write s o) = (λ e. e, λ w. w)
 low-water-held t l (start s u) = (λ e. e, λ w. w)
@@ -36,30 +36,32 @@ low-water-held t l (step s p o) = (λ e. e, λ w. w)
 
 -- levels that are the same for every declared person are judged alike: an undeclared person's request gets 13
 module _ (t : Tables) (levels levels′ : ℕ → ℕ) (same : (s : ℕ) → personDeclared t s ≡ true → levels s ≡ levels′ s) where
-  low-water-same : (r : Request) → declared t r ≡ true → lowWater t levels r ≡ lowWater t levels′ r
-  unfolding lowWater mayModify declared
-  low-water-same (read s o) d = refl
-  low-water-same (write s o) d = ap (atMost 12 (folderAt t o .level .0)) (same s (and-left (personDeclared t s) _ d))
-  low-water-same (start s u) d =
-      ap₂ (atMost 12) (same u (and-right (personDeclared t s) _ d)) (same s (and-left (personDeclared t s) _ d))
-  low-water-same (step s p o) d = ap (atMost 12 (folderAt t o .level .0)) (same s (declared-person t s p o d))
+  outcome-same : (r : Request) → declared t r ≡ true → levelOutcome t levels r ≡ levelOutcome t levels′ r
+  unfolding levelOutcome modifying declared
+  outcome-same (read s o) d = refl
+  outcome-same (write s o) d = ap (compareOf 12 (folderAt t o .level .0)) (same s (and-left (personDeclared t s) _ d))
+  outcome-same (start s u) d =
+      ap₂ (compareOf 12) (same u (and-right (personDeclared t s) _ d)) (same s (and-left (personDeclared t s) _ d))
+  outcome-same (step s p o) d = ap (compareOf 12 (folderAt t o .level .0)) (same s (declared-person t s p o d))
 
   pub same-levels : (H : Request → Bool) (bytes : List ℕ) → judgeWith t H levels bytes ≡ judgeWith t H levels′ bytes
-  unfolding judgeWith requestChecks
+  unfolding judgeWith requestChecks lowWater
   same-levels H bytes = go (requestOf bytes)
     where
       go : (q : Option Request) → ladder (requestChecks t H levels q) ≡ ladder (requestChecks t H levels′ q)
       go none = refl
       go (some r) =
-          ⊎-elim (λ d. rw (low-water-same r d))
+          ⊎-elim (λ d. rw (outcome-same r d))
           (λ f. ladder-refuses (declared t r else 13) _ f ∙ sym (ladder-refuses (declared t r else 13) _ f)) (decide (declared t r))
 
 -- levels that are current for every declared person
 module _ (t : Tables) (H : Request → Bool) (levels : ℕ → ℕ)
     (held : (s : ℕ) → personDeclared t s ≡ true → IsCurrentLevel t H s (levels s)) where
   pub low-water-by-set : (r : Request) → declared t r ≡ true → (lowWater t levels r ≡ true) ↔ LowWater t H r
+  unfolding lowWater
   low-water-by-set r d =
-      let same = low-water-same t levels (currentLevel t H) (λ s e. one-level t H s _ _ (held s e) (level-is-meet t H s)) r d in
+      let same =
+      ap isAtMost (outcome-same t levels (currentLevel t H) (λ s e. one-level t H s _ _ (held s e) (level-is-meet t H s)) r d) in
       let published = low-water-published t H r in
       (λ e. published .0 (sym same ∙ e), λ w. same ∙ published .1 w)
 

@@ -37,6 +37,7 @@ pub mod GivenEntries
 pub mod Books
 pub mod CallCauses
 pub mod Standings
+pub mod OutcomeNumbers
 pub mod WallNumber
 pub mod MarksAlone
 pub mod PublicFolders
@@ -44,6 +45,8 @@ pub mod Lowering
 pub mod LevelBytes
 pub mod Held
 pub mod LevelNumber
+pub mod Compared
+pub mod Clearances
 pub mod StepsAlter
 pub mod Blanks
 pub mod SetPlaces

@@ -2,7 +2,7 @@
 use mathlib.Core.Path.{refl}
 use Rattle.bits.specs.Bits.{bit, withBit}
 use Rattle.bits.specs.Bounded.{anyBelow, allBelow, foldBelow}
-use Rattle.level.specs.Levels.{rankOf, compartmentsOf, levelOf, atMost, meetOf}
+use Rattle.level.specs.Levels.{rankOf, compartmentsOf, levelOf, compareOf, isAtMost, meetOf}
 use Rattle.policy.specs.Checks.{ladder}
 use Rattle.policy.specs.Tables.{
   emptyTables,
@@ -61,11 +61,13 @@ use Rattle.policy.specs.Rules.{
   leadsTo,
   pipelineStep,
   pipeline,
-  mayModify,
+  modifying,
+  levelOutcome,
   lowWater,
 }
 use Rattle.policy.specs.Calls.{
   restOf,
+  outcomeNumber,
   requestChecks,
   judgeWith,
   judgeOver,
@@ -81,12 +83,12 @@ use Rattle.policy.specs.Marked.{wallAnswer, lowWaterAnswer, heldAnswer, 
 
 pub marked-cases : MarkedCases
 unfolding
-    bit withBit anyBelow allBelow foldBelow rankOf compartmentsOf levelOf atMost meetOf ladder emptyTables enables
+    bit withBit anyBelow allBelow foldBelow rankOf compartmentsOf levelOf compareOf isAtMost meetOf ladder emptyTables enables
     firmDeclared personDeclared folderDeclared roleDeclared classOf inForce bodyLength littleEndian recordOf inRange
     declaredBefore firmStands folderStands entersCreate recordChecks madePublic declare reaches hasCircle isLoose hasLoose endChecks
     refusedBook ended loadFrom loadBook subject two three requestOf recordLength same member declared right did stepped accessed firmOfSome
     counts counted otherClass wallAccess wall observed loweredBy currentLevel someRequest used roleCovers roles done leadsTo pipelineStep
-    pipeline mayModify lowWater restOf requestChecks judgeWith judgeOver addedIf judgeList afterRecord callsFrom callsOf grantedIn refusedIn
+    pipeline modifying levelOutcome lowWater restOf outcomeNumber requestChecks judgeWith judgeOver addedIf judgeList afterRecord callsFrom callsOf grantedIn refusedIn
     levelAt withLevelAt metWith lowered wallAnswer lowWaterAnswer heldAnswer withTotals
 marked-cases =
     record {
@@ -108,4 +110,5 @@ marked-cases =
       held-write = refl;
       held-high = refl;
       held-low = refl;
+      clearances = refl;
     }

@@ -11,7 +11,7 @@ use lib.Dec.{eqb, leb, ltb}
 use lib.ListN.{getD}
 use Rattle.bits.specs.Bits.{bit}
 use Rattle.bits.specs.Bounded.{anyBelow, allBelow, foldBelow, _implies_}
-use Rattle.level.specs.Levels.{atMost, meetOf}
+use Rattle.level.specs.Levels.{compareOf, meetOf}
 use Rattle.policy.specs.declared.Firm.{Firm}
 use Rattle.policy.specs.declared.Person.{Person}
 use Rattle.policy.specs.declared.Role.{Role}
@@ -60,7 +60,8 @@ use Rattle.policy.specs.Rules.{
   leadsTo,
   pipelineStep,
   pipeline,
-  mayModify,
+  modifying,
+  levelOutcome,
   lowWater,
 }
 use Rattle.policy.specs.Levels.{levelAt, withLevelAt, metWith, lowered}
@@ -135,16 +136,16 @@ module _ (t t′ : Tables) (same : SameButMarks t t′) where
 
   -- ---- low-water, with the same levels
 
-  modify-same : (levels : ℕ → ℕ) (s o : ℕ) → mayModify t levels s o ≡ mayModify t′ levels s o
-  unfolding mayModify
-  modify-same levels s o = ap (λ (x : ℕ). atMost 12 x (levels s)) (same .folders o .level)
+  modify-same : (levels : ℕ → ℕ) (s o : ℕ) → modifying t levels s o ≡ modifying t′ levels s o
+  unfolding modifying
+  modify-same levels s o = ap (λ (x : ℕ). compareOf 12 x (levels s)) (same .folders o .level)
 
-  low-water-same : (levels : ℕ → ℕ) (r : Request) → lowWater t levels r ≡ lowWater t′ levels r
-  unfolding lowWater
-  low-water-same levels (read s o) = refl
-  low-water-same levels (write s o) = modify-same levels s o
-  low-water-same levels (start s u) = refl
-  low-water-same levels (step s p o) = modify-same levels s o
+  outcome-same : (levels : ℕ → ℕ) (r : Request) → levelOutcome t levels r ≡ levelOutcome t′ levels r
+  unfolding levelOutcome
+  outcome-same levels (read s o) = refl
+  outcome-same levels (write s o) = modify-same levels s o
+  outcome-same levels (start s u) = refl
+  outcome-same levels (step s p o) = modify-same levels s o
 
   -- ---- what a granted request lowers
 
@@ -237,13 +238,13 @@ module _ (t t′ : Tables) (same : SameButMarks t t′) where
     pipeline-same (step s (suc q) o) = ap (anyBelow 16) (fun-ext (λ p. leads-same o (suc q) p))
 
     after-same : (levels : ℕ → ℕ) (r : Request) → afterWall t H levels r ≡ afterWall t′ H levels r
-    unfolding afterWall
+    unfolding afterWall lowWater
     after-same levels r =
         rw (
           force-same lowWaterRule,
           force-same rolesRule,
           force-same pipelineRule,
-          low-water-same levels r,
+          outcome-same levels r,
           roles-same r,
           pipeline-same r,
         )

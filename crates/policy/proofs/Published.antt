@@ -24,7 +24,7 @@ use Rattle.bits.proofs.Booleans.{
   false-intro,
 }
 use Rattle.bits.proofs.Bounds.{any-some, some-any, all-at, all-of}
-use Rattle.level.specs.Levels.{atMost}
+use Rattle.level.specs.Levels.{isAtMost, atMost}
 use Rattle.level.proofs.LevelLaws.{atMost-refl, atMost-antisym}
 use Rattle.level.proofs.Meets.{met-below}
 use Rattle.policy.specs.declared.Tables.{Tables}
@@ -42,7 +42,8 @@ use Rattle.policy.specs.Rules.{
   observed,
   loweredBy,
   currentLevel,
-  mayModify,
+  modifying,
+  levelOutcome,
   lowWater,
   roleCovers,
   roles,
@@ -180,7 +181,7 @@ module _ (t : Tables) (H : Request → Bool) where
   )
 
   pub low-water-published : (r : Request) → (lowWater t (currentLevel t H) r ≡ true) ↔ LowWater t H r
-  unfolding lowWater mayModify
+  unfolding lowWater levelOutcome modifying isAtMost atMost
   low-water-published (read s o) = (λ e. tt, λ w. refl)
   low-water-published (write s o) = level-is-meet s (folderAt t o .level .0)
   low-water-published (start s u) = start-levels s u

@@ -9,6 +9,8 @@ use mathlib.Core.Option.{Option, none, some}
 use lib.Dec.{eqb}
 use borrow.Author.Tests.{eqb-true, eq-eqb, ne-eqb}
 use lib.ListN.{length, drop}
+use Rattle.level.specs.declared.Comparison.{Comparison}
+use Rattle.level.specs.declared.Comparison.the-variants.{AtMost, RankTooLow, CompartmentMissing}
 use Rattle.policy.specs.declared.Tables.{Tables}
 use Rattle.policy.specs.declared.Loaded.{Loaded}
 use Rattle.policy.specs.declared.Ran.{Ran}
@@ -28,9 +30,11 @@ use Rattle.policy.specs.Rulebook.{
 use Rattle.policy.specs.History.{historyBytes}
 use Rattle.policy.specs.Request.{Request, requestOf}
 use Rattle.policy.specs.Levels.{levelsBytes}
+use Rattle.policy.specs.Rules.{levelOutcome}
 use Rattle.policy.specs.Calls.{
   State,
   blankNumber,
+  outcomeNumber,
   requestChecks,
   callChecks,
   judgeNumber,
@@ -41,7 +45,7 @@ use Rattle.policy.specs.Calls.{
 }
 use Rattle.policy.specs.Demands.{Numbers, Beginnings}
 use Rattle.bits.proofs.Booleans.{by-test}
-use Rattle.policy.proofs.Ladders.{numbered, ladder-member, all-stand-in}
+use Rattle.policy.proofs.Ladders.{numbered, ladder-member, allStandIn, all-stand-in}
 use Rattle.policy.proofs.CallChecks.{refused-first}
 
 -- ---- no check has the number 0
@@ -78,11 +82,22 @@ module _ (P : Loaded → Type 0) (refusal : (n at : ℕ) → List·Memᴰ n book
 
 -- ---- every number
 
+-- each number of the checks of judging, with that of an outcome, is one of these
+abbrev judgeNumbers : List ℕ
+judgeNumbers = 0 ∷ 10 ∷ 20 ∷ 11 ∷ 12 ∷ 13 ∷ 14 ∷ 15 ∷ 21 ∷ 16 ∷ 17 ∷ []
+
+all-stand : (c : Comparison) → allStandIn judgeNumbers (0 ∷ 10 ∷ 20 ∷ 11 ∷ 13 ∷ 14 ∷ outcomeNumber c ∷ 16 ∷ 17 ∷ []) ≡ true
+unfolding outcomeNumber
+all-stand AtMost = refl
+all-stand RankTooLow = refl
+all-stand CompartmentMissing = refl
+
 judge-number : (t : Tables) (a : State) (H : Request → Bool) (levels : ℕ → ℕ) (r : Option Request)
-    → List·Memᴰ (ladder (callChecks t a ++ requestChecks t H levels r)) (0 ∷ 10 ∷ 20 ∷ 11 ∷ 12 ∷ 13 ∷ 14 ∷ 15 ∷ 16 ∷ 17 ∷ [])
+    → List·Memᴰ (ladder (callChecks t a ++ requestChecks t H levels r)) judgeNumbers
 unfolding callChecks requestChecks
 judge-number t a H levels none = all-stand-in _ _ _ refl (ladder-member (callChecks t a ++ requestChecks t H levels none))
-judge-number t a H levels (some r) = all-stand-in _ _ _ refl (ladder-member (callChecks t a ++ requestChecks t H levels (some r)))
+judge-number t a H levels (some r) =
+    all-stand-in _ _ _ (all-stand (levelOutcome t levels r)) (ladder-member (callChecks t a ++ requestChecks t H levels (some r)))
 
 -- the number that a run, and a standing, has is the number of its checks
 pub ran-number : (t : Tables) (a : State) (requests answers : List ℕ) → ran t a requests answers .number ≡ runNumber t a requests answers

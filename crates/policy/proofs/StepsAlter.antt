@@ -9,22 +9,24 @@ use mathlib.Core.Option.{Option, none, some}
 use lib.Dec.{eqb}
 use lib.ListN.{length}
 use borrow.Author.Tests.{eqb-true, eqb-false, le-leb}
-use Rattle.bits.specs.Bounded.{_implies_}
-use Rattle.bits.proofs.Booleans.{and-left, and-right, implies-elim, false-elim, decide}
-use Rattle.level.specs.Levels.{atMost, meetOf}
+use Rattle.bits.proofs.Booleans.{and-left, false-elim, decide}
+use Rattle.level.specs.declared.Comparison.the-variants.{RankTooLow, CompartmentMissing}
+use Rattle.level.specs.Levels.{isAtMost, atMost, meetOf}
+use Rattle.level.proofs.Comparing.{is-at-most}
 use Rattle.policy.specs.declared.Tables.{Tables}
 use Rattle.policy.specs.Checks.{ladder}
-use Rattle.policy.specs.Tables.{personAt, folderAt, personDeclared, folderDeclared, inForce, lowWaterRule}
+use Rattle.policy.specs.Tables.{personAt, folderAt, personDeclared, folderDeclared}
 use Rattle.policy.specs.Rulebook.{given}
 use Rattle.policy.specs.History.{historyBytes, zeros}
 use Rattle.policy.specs.Request.{Request, read, write, start, step, requestOf, setOf}
 use Rattle.policy.specs.Levels.{levelsBytes, levelAt}
-use Rattle.policy.specs.Rules.{declared, wall, mayModify, lowWater}
+use Rattle.policy.specs.Rules.{declared, wall, levelOutcome, lowWater}
 use Rattle.policy.specs.Calls.{
   State,
   blankNumber,
   blankState,
   callChecks,
+  outcomeNumber,
   judgeNumber,
   recordedIf,
   putState,
@@ -33,7 +35,8 @@ use Rattle.policy.specs.Calls.{
 }
 use Rattle.policy.specs.Published.{LowWaterInForce, Observes, Observed}
 use Rattle.policy.specs.Causes.{recordBytes, PartiesDeclared}
-use Rattle.policy.specs.StepsAlter.{NotAtFront, LoweredBy, givenLevel, StepsAlter}
+use Rattle.policy.specs.StepsAlter.{OfLowWater, NotAtFront, LoweredBy, givenLevel, StepsAlter}
+use Rattle.policy.specs.Clearances.{standingOutcome}
 use Rattle.policy.proofs.CallChecks.{sizeRight, heldRight, ready-passes}
 use Rattle.policy.proofs.Requests.{person-below, declared-person}
 use Rattle.policy.proofs.Places.{size-recorded, set-zeros}
@@ -51,11 +54,11 @@ use Rattle.policy.proofs.LevelNumber.{
   levelNumber,
   level-other,
   judged-level,
-  same-fifteen,
+  same-refusal,
   Before,
-  fifteen,
-  zero,
+  judged-granted,
 }
+use Rattle.policy.proofs.Clearances.{standing-zero, standing-level, granted-outcome, refused-outcome}
 use Rattle.policy.proofs.Lowering.{level-stays, level-first, level-own, level-others}
 
 -- ---- a step is judged as a write
@@ -70,11 +73,11 @@ step-parties t s p o l =
 unfoldable writeNumber : Tables → State → ℕ → ℕ → ℕ → ℕ
 writeNumber t a s o later =
     levelNumber (sizeRight a) (heldRight a) (given t) (declared t (write s o)) (walled t (setOf (a .history)) (write s o))
-    (levelled t (levelAt (a .levels)) (write s o)) later
+    (levelled t (levelAt (a .levels)) (write s o)) (outcomeNumber (levelOutcome t (levelAt (a .levels)) (write s o))) later
 
 step-number : (t : Tables) (a : State) (bytes : List ℕ) (s p o : ℕ) → p ≤ 15 → requestOf bytes ≡ some (step s p o)
     → judgeNumber t a bytes ≡ writeNumber t a s o (afterLevel t (setOf (a .history)) (step s p o))
-unfolding writeNumber walled wall levelled lowWater
+unfolding writeNumber walled wall levelled lowWater levelOutcome
 step-number t a bytes s p o l is = judged-level t a bytes (step s p o) is ∙ rw (step-parties t s p o l)
 
 write-number : (t : Tables) (a : State) (bytes : List ℕ) (s o : ℕ) → requestOf bytes ≡ some (write s o)
@@ -82,72 +85,28 @@ write-number : (t : Tables) (a : State) (bytes : List ℕ) (s o : ℕ) → reque
 unfolding writeNumber
 write-number t a bytes s o is = judged-level t a bytes (write s o) is
 
-as-write : (t : Tables) (a : State) (bytes bytes′ : List ℕ) (s p o : ℕ) → p ≤ 15 → requestOf bytes ≡ some (step s p o)
-    → requestOf bytes′ ≡ some (write s o) → (judgeNumber t a bytes ≡ 15) ↔ (judgeNumber t a bytes′ ≡ 15)
+as-write : (t : Tables) (a : State) (bytes bytes′ : List ℕ) (s p o n : ℕ) → p ≤ 15 → requestOf bytes ≡ some (step s p o)
+    → requestOf bytes′ ≡ some (write s o) → OfLowWater n → (judgeNumber t a bytes ≡ n) ↔ (judgeNumber t a bytes′ ≡ n)
 unfolding writeNumber
-as-write t a bytes bytes′ s p o l is is′ =
+as-write t a bytes bytes′ s p o n l is is′ of =
     let one = step-number t a bytes s p o l is in
     let other = write-number t a bytes′ s o is′ in
     let H = setOf (a .history) in (
-      λ e. other ∙ same-fifteen _ _ _ _ _ _ _ _ (level-other t H (step s p o)) (sym one ∙ e),
-      λ e. one ∙ same-fifteen _ _ _ _ _ _ _ _ (level-other t H (write s o)) (sym other ∙ e),
+      λ e. other ∙ same-refusal _ _ _ _ _ _ _ _ _ _ (level-other t H (step s p o) n of) (sym one ∙ e),
+      λ e. one ∙ same-refusal _ _ _ _ _ _ _ _ _ _ (level-other t H (write s o) n of) (sym other ∙ e),
     )
 
 -- ---- the level of standing
 
-standing-zero : (t : Tables) (a : State) (s : ℕ) {d : Bool} → Before (sizeRight a) (heldRight a) (given t) d → personDeclared t s ≡ true
-    → standingNumber t a s ≡ 0
-unfolding standingNumber callChecks ladder
-standing-zero t a s w d = rw (w .size, w .held, w .known, d)
+-- an outcome that is not "at most" is the only one that a number of low-water tells
+module _ (t : Tables) (a : State) (bytes : List ℕ) (r : Request) (is : requestOf bytes ≡ some r) where
+  at-most : LowWaterInForce t → judgeNumber t a bytes ≡ 0 → isAtMost (standingOutcome t a r) ≡ true
+  at-most on e = is-at-most _ .0 (granted-outcome t a bytes r is on e)
 
-standing-level : (t : Tables) (a : State) (s : ℕ) → standingNumber t a s ≡ 0 → standing t a s .level .0 ≡ levelAt (a .levels) s
-unfolding standing
-standing-level t a s e = rw e
-
--- a rule that refuses does not permit
-implies-false : (a b : Bool) → (a implies b) ≡ false → b ≡ false
-implies-false true b e = e
-implies-false false b e = absurd (false≢true (sym e))
-
-module _ (t : Tables) (a : State) (bytes : List ℕ) (s p o : ℕ) (is : requestOf bytes ≡ some (step s p o)) where
-  granted-level : LowWaterInForce t → judgeNumber t a bytes ≡ 0
-      → atMost 12 (folderAt t o .level .0) (standing t a s .level .0) ≡ true
-  unfolding levelled lowWater mayModify inForce
-  granted-level on e =
-      let (w, l) = zero _ _ _ _ _ _ _ (sym (judged-level t a bytes (step s p o) is) ∙ e) in
-      rw (standing-level t a s (standing-zero t a s w (declared-person t s p o (w .parties)))) (implies-elim _ _ l on)
-
-  refused-level : judgeNumber t a bytes ≡ 15 → atMost 12 (folderAt t o .level .0) (standing t a s .level .0) ≡ false
-  unfolding levelled lowWater mayModify
-  refused-level e =
-      let (w, l) = fifteen _ _ _ _ _ _ _ (level-other t (setOf (a .history)) (step s p o))
-      (sym (judged-level t a bytes (step s p o) is) ∙ e) in
-      rw (standing-level t a s (standing-zero t a s w (declared-person t s p o (w .parties))))
-      (implies-false (inForce t lowWaterRule) _ l)
-
--- a start is judged by the levels of both persons
-start-persons : (t : Tables) (s u : ℕ) → declared t (start s u) ≡ true → (personDeclared t s ≡ true) × (personDeclared t u ≡ true)
-unfolding declared
-start-persons t s u d = (and-left (personDeclared t s) _ d, and-right (personDeclared t s) _ d)
-
-module _ (t : Tables) (a : State) (bytes : List ℕ) (s u : ℕ) (is : requestOf bytes ≡ some (start s u)) where
-  start-granted : LowWaterInForce t → judgeNumber t a bytes ≡ 0
-      → atMost 12 (standing t a u .level .0) (standing t a s .level .0) ≡ true
-  unfolding levelled lowWater inForce
-  start-granted on e =
-      let (w, l) = zero _ _ _ _ _ _ _ (sym (judged-level t a bytes (start s u) is) ∙ e) in
-      let (ds, du) = start-persons t s u (w .parties) in
-      rw (standing-level t a s (standing-zero t a s w ds), standing-level t a u (standing-zero t a u w du))
-      (implies-elim _ _ l on)
-
-  start-refused : judgeNumber t a bytes ≡ 15 → atMost 12 (standing t a u .level .0) (standing t a s .level .0) ≡ false
-  unfolding levelled lowWater
-  start-refused e =
-      let (w, l) = fifteen _ _ _ _ _ _ _ (level-other t (setOf (a .history)) (start s u))
-      (sym (judged-level t a bytes (start s u) is) ∙ e) in
-      let (ds, du) = start-persons t s u (w .parties) in
-      rw (standing-level t a s (standing-zero t a s w ds), standing-level t a u (standing-zero t a u w du))
-      (implies-false (inForce t lowWaterRule) _ l)
+  not-at-most : OfLowWater (judgeNumber t a bytes) → isAtMost (standingOutcome t a r) ≡ false
+  unfolding isAtMost outcomeNumber
+  not-at-most (inl e) = ap isAtMost (refused-outcome t a bytes r is RankTooLow (λ q. false≢true (ap isAtMost q)) e)
+  not-at-most (inr e) = ap isAtMost (refused-outcome t a bytes r is CompartmentMissing (λ q. false≢true (ap isAtMost q)) e)
 
 read-person : (t : Tables) (s o : ℕ) → declared t (read s o) ≡ true → personDeclared t s ≡ true
 unfolding declared
@@ -157,7 +116,7 @@ read-person t s o d = and-left (personDeclared t s) _ d
 
 granted-before : (t : Tables) (a : State) (bytes : List ℕ) (r : Request) → requestOf bytes ≡ some r → judgeNumber t a bytes ≡ 0
     → Before (sizeRight a) (heldRight a) (given t) (declared t r)
-granted-before t a bytes r is e = zero _ _ _ _ _ _ _ (sym (judged-level t a bytes r is) ∙ e) .0
+granted-before t a bytes r is e = judged-granted t a bytes r is e .0
 
 -- standing has the same number for buffers of the same lengths
 same-number : (t : Tables) (a b : State) (s : ℕ) → length (b .history) ≡ length (a .history) → length (b .levels) ≡ length (a .levels)
@@ -310,14 +269,15 @@ blank-level t a s e =
     ∙ first-declared t a (blank-taken t a s number) s (standing-person t (blankState t a) s number)
 
 pub steps-alter : StepsAlter
+unfolding atMost
 steps-alter =
     record {
-      asWrite = λ t a bytes bytes′ rest rest′ s p o l f f′.
-          as-write t a bytes bytes′ s p o l (front-request (step s p o) rest f) (front-request (write s o) rest′ f′);
-      granted = λ t a bytes rest s p o f. granted-level t a bytes s p o (front-request (step s p o) rest f);
-      refused = λ t a bytes rest s p o f. refused-level t a bytes s p o (front-request (step s p o) rest f);
-      startGranted = λ t a bytes rest s u f. start-granted t a bytes s u (front-request (start s u) rest f);
-      startRefused = λ t a bytes rest s u f. start-refused t a bytes s u (front-request (start s u) rest f);
+      asWrite = λ t a bytes bytes′ rest rest′ s p o n l f f′.
+          as-write t a bytes bytes′ s p o n l (front-request (step s p o) rest f) (front-request (write s o) rest′ f′);
+      granted = λ t a bytes rest s p o f. at-most t a bytes (step s p o) (front-request (step s p o) rest f);
+      refused = λ t a bytes rest s p o f. not-at-most t a bytes (step s p o) (front-request (step s p o) rest f);
+      startGranted = λ t a bytes rest s u f. at-most t a bytes (start s u) (front-request (start s u) rest f);
+      startRefused = λ t a bytes rest s u f. not-at-most t a bytes (start s u) (front-request (start s u) rest f);
       lowers = λ t a bytes rest s p o f e.
           let is = front-request (step s p o) rest f in
           let person = declared-person t s p o (granted-before t a bytes (step s p o) is e .parties) in

@@ -9,15 +9,17 @@ use mathlib.Core.List.{[], _∷_, _++_}
 use mathlib.Core.Option.{Option, none, some}
 use lib.ListN.{length}
 use Rattle.bits.specs.Bounded.{_implies_}
+use Rattle.level.specs.declared.Comparison.{Comparison}
 use Rattle.policy.specs.declared.Tables.{Tables}
 use Rattle.policy.specs.Checks.{_else_, ladder}
 use Rattle.policy.specs.Tables.{inForce, wallRule, lowWaterRule, rolesRule, pipelineRule}
 use Rattle.policy.specs.Rulebook.{given}
 use Rattle.policy.specs.Request.{Request, setOf}
 use Rattle.policy.specs.Levels.{levelAt}
-use Rattle.policy.specs.Rules.{declared, wall, lowWater, roles, pipeline}
-use Rattle.policy.specs.Calls.{State, requestChecks, callChecks}
+use Rattle.policy.specs.Rules.{declared, wall, levelOutcome, lowWater, roles, pipeline}
+use Rattle.policy.specs.Calls.{State, outcomeNumber, requestChecks, callChecks}
 use Rattle.policy.proofs.CallChecks.{sizeRight, heldRight}
+use Rattle.policy.proofs.OutcomeNumbers.{outcome-other}
 
 -- the number of the call's checks, of the parties, of the wall and of what comes after it
 abbrev pub numberOf : Bool → Bool → Bool → Bool → Bool → ℕ → ℕ
@@ -27,22 +29,22 @@ numberOf size held given parties walled later =
 -- the number of the rules after the wall
 unfoldable pub afterWall : Tables → (Request → Bool) → (ℕ → ℕ) → Request → ℕ
 afterWall t H levels r =
-    ladder ((inForce t lowWaterRule implies lowWater t levels r else 15)
+    ladder ((inForce t lowWaterRule implies lowWater t levels r else outcomeNumber (levelOutcome t levels r))
     ∷ (inForce t rolesRule implies roles t H r else 16)
     ∷ (inForce t pipelineRule implies pipeline t H r else 17)
     ∷ [])
 
 -- it is another one
-later-other : (l r p : Bool) → _≢_ {A = ℕ} (cond l (cond r (cond p 0 17) 16) 15) 14
-later-other false r p = omega arith
-later-other true false p = omega arith
-later-other true true false = omega arith
-later-other true true true = omega arith
+later-other : (c : Comparison) (l r p : Bool) → _≢_ {A = ℕ} (cond l (cond r (cond p 0 17) 16) (outcomeNumber c)) 14
+later-other c false r p = outcome-other c
+later-other c true false p = omega arith
+later-other c true true false = omega arith
+later-other c true true true = omega arith
 
 pub after-other : (t : Tables) (H : Request → Bool) (levels : ℕ → ℕ) (r : Request) → afterWall t H levels r ≢ 14
 unfolding afterWall ladder
 after-other t H levels r =
-    later-other (inForce t lowWaterRule implies lowWater t levels r) (inForce t rolesRule implies roles t H r)
+    later-other (levelOutcome t levels r) (inForce t lowWaterRule implies lowWater t levels r) (inForce t rolesRule implies roles t H r)
     (inForce t pipelineRule implies pipeline t H r)
 
 -- the wall, where it is in force

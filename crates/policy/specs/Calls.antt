@@ -1,4 +1,4 @@
--- The calls (document 01, "Requests and calls", and document 02, Point 4): everything that each returns, and every lent byte afterwards.
+-- The calls (document 01, "Requests and calls", and document 02, Points 4 and 5): everything that each returns, and every lent byte afterwards.
 use Prim.Native.Nat.{ℕ, zero, suc, _+_}
 use mathlib.Core.Bool.{Bool, true, false, cond}
 use mathlib.Core.List.{List, [], _∷_, _++_}
@@ -6,6 +6,8 @@ use mathlib.Core.Option.{Option, none, some}
 use lib.Dec.{eqb, leb}
 use lib.ListN.{length, drop}
 use Rattle.bits.specs.Bounded.{countBelow, _implies_}
+use Rattle.level.specs.declared.Comparison.{Comparison}
+use Rattle.level.specs.declared.Comparison.the-variants.{AtMost, RankTooLow, CompartmentMissing}
 use Rattle.policy.specs.declared.Tables.{Tables}
 use Rattle.policy.specs.declared.Ran.{Ran}
 use Rattle.policy.specs.declared.Standing.{Standing}
@@ -15,7 +17,7 @@ use Rattle.policy.specs.Rulebook.{loadBook, given}
 use Rattle.policy.specs.History.{historyBytes, zeros}
 use Rattle.policy.specs.Request.{Request, requestOf, recordLength, setOf, recorded, member}
 use Rattle.policy.specs.Levels.{levelsBytes, levelAt, firstLevels, lowered}
-use Rattle.policy.specs.Rules.{declared, wall, lowWater, currentLevel, roles, pipeline, used, opened}
+use Rattle.policy.specs.Rules.{declared, wall, levelOutcome, lowWater, currentLevel, roles, pipeline, used, opened}
 
 -- what is lent to a call and passed on to the next one, as one state: the history, and each person's level held ready
 pub record State : Type 0 where
@@ -44,13 +46,19 @@ blankState t a = cond (eqb (blankNumber t a) 0) (state (zeros historyBytes) (fir
 unfoldable pub restOf : List ℕ → List ℕ
 restOf book = cond (eqb (loadBook book .number) 0) (drop (loadBook book .offset + 1) book) []
 
+-- the number of low-water for each outcome of its comparison: no refusal, which is 0, or the rank's number, or the compartment's
+unfoldable pub outcomeNumber : Comparison → ℕ
+outcomeNumber AtMost = 0
+outcomeNumber RankTooLow = 15
+outcomeNumber CompartmentMissing = 21
+
 -- the checks of the request at the front of the bytes, over the set of requests granted so far and a level for each person
 unfoldable pub requestChecks : Tables → (Request → Bool) → (ℕ → ℕ) → Option Request → List Check
 requestChecks t H levels none = (false else 12) ∷ []
 requestChecks t H levels (some r) =
     (declared t r else 13)
     ∷ ((inForce t wallRule implies wall t H r) else 14)
-    ∷ ((inForce t lowWaterRule implies lowWater t levels r) else 15)
+    ∷ ((inForce t lowWaterRule implies lowWater t levels r) else outcomeNumber (levelOutcome t levels r))
     ∷ ((inForce t rolesRule implies roles t H r) else 16)
     ∷ ((inForce t pipelineRule implies pipeline t H r) else 17)
     ∷ []

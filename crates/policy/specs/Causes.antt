@@ -18,6 +18,9 @@ use Rattle.policy.specs.Published.{
   Wall,
   Roles,
   Pipeline,
+  LacksRank,
+  LacksCompartment,
+  Compared,
 }
 use Rattle.policy.specs.Given.{LoadGives}
 
@@ -87,14 +90,15 @@ callCauses t a =
     ∷ (11 when (LoadGives t → ⊥))
     ∷ []
 
--- judge and put, with low-water as it is read
-abbrev pub judgeCauses : Tables → State → List ℕ → (Request → Type 0) → List Cause
-judgeCauses t a bytes LowWater =
+-- judge and put, with the levels of persons as they are read; 21 stands in the place of 15
+abbrev pub judgeCauses : Tables → State → List ℕ → (ℕ → ℕ → Type 0) → List Cause
+judgeCauses t a bytes IsLevel =
     callCauses t a
     ++ (12 when NoRequest bytes)
     ∷ (13 when RequestAtFront bytes (λ r. PartiesDeclared t r → ⊥))
     ∷ (14 when RequestAtFront bytes (λ r. WallInForce t × (Wall t (setOf (a .history)) r → ⊥)))
-    ∷ (15 when RequestAtFront bytes (λ r. LowWaterInForce t × (LowWater r → ⊥)))
+    ∷ (15 when RequestAtFront bytes (λ r. LowWaterInForce t × Compared t IsLevel LacksRank r))
+    ∷ (21 when RequestAtFront bytes (λ r. LowWaterInForce t × Compared t IsLevel LacksCompartment r))
     ∷ (16 when RequestAtFront bytes (λ r. RolesInForce t × (Roles t (setOf (a .history)) r → ⊥)))
     ∷ (17 when RequestAtFront bytes (λ r. PipelineInForce t × (Pipeline t (setOf (a .history)) r → ⊥)))
     ∷ []

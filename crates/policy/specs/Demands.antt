@@ -1,5 +1,5 @@
 -- What stands beside the agreement, on every input, history, level buffer and set of tables: document 01's first and second demand, with
--- document 02, Point 4.
+-- document 02, Points 4 and 5.
 use Prim.Native.Nat.{ℕ, _+_, _*_, _/_, _%_, _<_}
 use mathlib.Core.Path.{_≡_}
 use mathlib.Core.Logic.{_⊎_, _↔_, _≢_}
@@ -45,6 +45,7 @@ use Rattle.policy.specs.Published.{
   Pipeline,
   heldLevel,
   LowWaterHeld,
+  IsHeldLevel,
 }
 use Rattle.policy.specs.Ways.{Way, Enables}
 use Rattle.policy.specs.Given.{OfType, LoadGives}
@@ -71,7 +72,7 @@ pub record Numbers : Type 0 where
   pub load : (book : List ℕ) → List·Memᴰ (loadBook book .number) (0 ∷ 1 ∷ 2 ∷ 3 ∷ 4 ∷ 5 ∷ 6 ∷ 7 ∷ 8 ∷ 9 ∷ 19 ∷ [])
   pub judge :
       (t : Tables) (a : State) (bytes : List ℕ)
-      → List·Memᴰ (judgeNumber t a bytes) (0 ∷ 10 ∷ 20 ∷ 11 ∷ 12 ∷ 13 ∷ 14 ∷ 15 ∷ 16 ∷ 17 ∷ [])
+      → List·Memᴰ (judgeNumber t a bytes) (0 ∷ 10 ∷ 20 ∷ 11 ∷ 12 ∷ 13 ∷ 14 ∷ 15 ∷ 21 ∷ 16 ∷ 17 ∷ [])
   pub run :
       (t : Tables) (a : State) (requests answers : List ℕ)
       → List·Memᴰ (ran t a requests answers .number) (0 ∷ 10 ∷ 20 ∷ 11 ∷ 18 ∷ [])
@@ -99,11 +100,11 @@ pub record Causes : Type 0 where
   -- low-water is read with the levels in the buffer, also where they disagree with the history
   pub judge :
       (t : Tables) (a : State) (bytes : List ℕ) (n : ℕ) → OfType t
-      → (judgeNumber t a bytes ≡ n) ↔ Answer (judgeCauses t a bytes (LowWaterHeld t (a .levels))) n
-  -- and where they are those that the history gives, by 001's form over the set
+      → (judgeNumber t a bytes ≡ n) ↔ Answer (judgeCauses t a bytes (IsHeldLevel (a .levels))) n
+  -- and where they are those that the history gives, with the current levels
   pub judgeBySet :
       (t : Tables) (a : State) (bytes : List ℕ) (n : ℕ) → OfType t → HoldsCurrent t a
-      → (judgeNumber t a bytes ≡ n) ↔ Answer (judgeCauses t a bytes (LowWater t (setOf (a .history)))) n
+      → (judgeNumber t a bytes ≡ n) ↔ Answer (judgeCauses t a bytes (IsCurrentLevel t (setOf (a .history)))) n
   pub run :
       (t : Tables) (a : State) (requests answers : List ℕ) (n : ℕ) → OfType t
       → (ran t a requests answers .number ≡ n) ↔ Answer (runCauses t a requests answers) n

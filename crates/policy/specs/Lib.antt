@@ -17,4 +17,5 @@ pub mod Agreement
 pub mod Demands
 pub mod PublicFolders
 pub mod StepsAlter
+pub mod Clearances
 pub mod Marked

@@ -1,4 +1,4 @@
--- The marked cases P1 to P10 of document 01, and cases of document 02, Points 2 and 4: what is asked, and what is answered.
+-- The marked cases P1 to P10 of document 01, and cases of document 02, Points 2, 4 and 5: what is asked, and what is answered.
 use Prim.Native.Nat.{ℕ}
 use mathlib.Core.Path.{_≡_}
 use mathlib.Core.Bool.{Bool}
@@ -9,8 +9,8 @@ use Rattle.policy.specs.Checks.{_else_, ladder}
 use Rattle.policy.specs.Rulebook.{loadBook}
 use Rattle.policy.specs.Request.{Request, read, write, start, step, member}
 use Rattle.policy.specs.Levels.{levelAt, lowered}
-use Rattle.policy.specs.Rules.{wall, lowWater, currentLevel}
-use Rattle.policy.specs.Calls.{restOf, callsOf, judgeList, grantedIn, refusedIn}
+use Rattle.policy.specs.Rules.{wall, levelOutcome, currentLevel}
+use Rattle.policy.specs.Calls.{restOf, callsOf, outcomeNumber, judgeList, grantedIn, refusedIn}
 
 -- the printed book: the role's rights in bytes of their own, since P10 has others
 abbrev pub bookWith : List ℕ → List ℕ
@@ -71,6 +71,24 @@ stepsBook =
 abbrev pub stepsRequests : List ℕ
 stepsRequests = 19 ∷ 0 ∷ 5 ∷ 1 ∷ 17 ∷ 0 ∷ 0 ∷ 19 ∷ 0 ∷ 3 ∷ 2 ∷ 19 ∷ 0 ∷ 0 ∷ 1 ∷ []
 
+-- Point 5: low-water alone; person 0 at 0x2001, person 1 at 0x1003, folders 0, 1 and 2 at 0x1003, 0x3003 and 0x3001. Folder 0 and person 1
+-- have a compartment that person 0 has not, and no higher rank; folder 1 has both, folder 2 a higher rank alone, and so has person 0 with
+-- person 1
+abbrev pub clearancesBook : List ℕ
+clearancesBook =
+    1 ∷ 2
+    ∷ 2 ∷ 0 ∷ 0
+    ∷ 3 ∷ 0 ∷ 1 ∷ 32
+    ∷ 3 ∷ 1 ∷ 3 ∷ 16
+    ∷ 4 ∷ 0 ∷ 0 ∷ 0 ∷ 3 ∷ 16
+    ∷ 4 ∷ 1 ∷ 0 ∷ 0 ∷ 3 ∷ 48
+    ∷ 4 ∷ 2 ∷ 0 ∷ 0 ∷ 1 ∷ 48
+    ∷ 0
+    ∷ []
+
+abbrev pub clearancesRequests : List ℕ
+clearancesRequests = 17 ∷ 0 ∷ 0 ∷ 17 ∷ 0 ∷ 1 ∷ 17 ∷ 0 ∷ 2 ∷ 18 ∷ 0 ∷ 1 ∷ 18 ∷ 1 ∷ 0 ∷ []
+
 -- the answers of a book and the requests after it, from the empty set
 abbrev pub played : List ℕ → List ℕ
 played bytes = judgeList (loadBook bytes .tables) [] (callsOf (restOf bytes))
@@ -83,11 +101,11 @@ unfoldable pub wallAnswer : Tables → (Request → Bool) → Request → ℕ
 wallAnswer t H r = ladder ((wall t H r else 14) ∷ [])
 
 unfoldable pub lowWaterAnswer : Tables → (Request → Bool) → Request → ℕ
-lowWaterAnswer t H r = ladder ((lowWater t (currentLevel t H) r else 15) ∷ [])
+lowWaterAnswer t H r = outcomeNumber (levelOutcome t (currentLevel t H) r)
 
 -- the same with the levels in a buffer
 unfoldable pub heldAnswer : Tables → List ℕ → Request → ℕ
-heldAnswer t levels r = ladder ((lowWater t (levelAt levels) r else 15) ∷ [])
+heldAnswer t levels r = outcomeNumber (levelOutcome t (levelAt levels) r)
 
 -- the answers, then how many grant and how many refuse
 unfoldable pub withTotals : List ℕ → List ℕ
@@ -109,7 +127,7 @@ pub record MarkedCases : Type 0 where
   pub P9-one : wallAnswer (loadBook printedBook .tables) (member (read 0 0 ∷ read 0 1 ∷ [])) (read 0 0) ≡ 0
   pub P9-other : wallAnswer (loadBook printedBook .tables) (member (read 0 0 ∷ read 0 1 ∷ [])) (read 0 1) ≡ 0
   pub P10 : played (bookWith (3 ∷ 0 ∷ 3 ∷ 0 ∷ 1 ∷ 0 ∷ 3 ∷ 0 ∷ []) ++ 19 ∷ 1 ∷ 2 ∷ 2 ∷ []) ≡ 16 ∷ []
-  pub steps : played (stepsBook ++ stepsRequests) ≡ 0 ∷ 15 ∷ 15 ∷ 0 ∷ []
+  pub steps : played (stepsBook ++ stepsRequests) ≡ 0 ∷ 15 ∷ 21 ∷ 0 ∷ []
   -- Point 4, with the book of Point 2 and an entry for person 0: a step on folder 1, and then a read of folder 2, lowers 0x2003 to 0x1001
   -- and to 0x1000; a write does not; and a write in folder 0 is judged by the entry, whatever was done
   pub held-step : lowered (loadBook stepsBook .tables) (3 ∷ 32 ∷ []) (step 0 5 1) ≡ 1 ∷ 16 ∷ []
@@ -117,3 +135,4 @@ pub record MarkedCases : Type 0 where
   pub held-write : lowered (loadBook stepsBook .tables) (3 ∷ 32 ∷ []) (write 0 1) ≡ 3 ∷ 32 ∷ []
   pub held-high : heldAnswer (loadBook stepsBook .tables) (3 ∷ 32 ∷ []) (write 0 0) ≡ 0
   pub held-low : heldAnswer (loadBook stepsBook .tables) (1 ∷ 16 ∷ []) (write 0 0) ≡ 15
+  pub clearances : played (clearancesBook ++ clearancesRequests) ≡ 21 ∷ 15 ∷ 15 ∷ 21 ∷ 15 ∷ []

@@ -1,12 +1,12 @@
 -- The four rules as document 001 prints them (sections 4.1 to 4.4), with "there is" and "for all", as types.
-use Prim.Native.Nat.{ℕ, _+_, _*_}
+use Prim.Native.Nat.{ℕ, _+_, _*_, _≤_, _<_}
 use mathlib.Core.Path.{_≡_}
 use mathlib.Core.Logic.{_⊎_, _↔_, _≢_}
 use mathlib.Core.Bool.{Bool, true, false}
 use mathlib.Core.List.{List}
 use lib.ListN.{getD}
 use Rattle.bits.specs.Bits.{bit}
-use Rattle.level.specs.Levels.{atMost}
+use Rattle.level.specs.Levels.{rankOf, compartmentsOf, atMost}
 use Rattle.policy.specs.declared.Tables.{Tables}
 use Rattle.policy.specs.Request.{Request, read, write, start, step}
 use Rattle.policy.specs.Tables.{firmAt, personAt, folderAt, roleAt, enables, roleDeclared}
@@ -136,3 +136,27 @@ LowWaterHeld t levels (read s o) = Unit {0}
 LowWaterHeld t levels (write s o) = atMost 12 (folderAt t o .level .0) (heldLevel levels s) ≡ true
 LowWaterHeld t levels (start s u) = atMost 12 (heldLevel levels u) (heldLevel levels s) ≡ true
 LowWaterHeld t levels (step s p o) = atMost 12 (folderAt t o .level .0) (heldLevel levels s) ≡ true
+
+-- ---- why low-water refuses (document 02, Point 5)
+
+-- level a must be at most level b, and the rank of b is too low, also if a compartment is missing besides
+abbrev pub LacksRank : ℕ → ℕ → Type 0
+LacksRank a b = rankOf 12 b < rankOf 12 a
+
+-- or the rank of b suffices, and a compartment is missing: one of a that b has not
+abbrev pub LacksCompartment : ℕ → ℕ → Type 0
+LacksCompartment a b =
+    (rankOf 12 a ≤ rankOf 12 b)
+    × ((k : ℕ) × (bit (compartmentsOf 12 a) k ≡ true) × (bit (compartmentsOf 12 b) k ≡ false))
+
+-- P holds of the two levels that low-water compares, where `IsLevel s b` says that b is the level of person s: for a write or a step the
+-- folder's and the person's, for a start those of the one started and of the one who starts; for a read it compares none
+abbrev pub Compared : Tables → (ℕ → ℕ → Type 0) → (ℕ → ℕ → Type 0) → Request → Type 0
+Compared t IsLevel P (read s o) = ⊥
+Compared t IsLevel P (write s o) = (b : ℕ) × IsLevel s b × P (folderAt t o .level .0) b
+Compared t IsLevel P (start s u) = (a : ℕ) × (b : ℕ) × IsLevel u a × IsLevel s b × P a b
+Compared t IsLevel P (step s p o) = (b : ℕ) × IsLevel s b × P (folderAt t o .level .0) b
+
+-- b is the level held ready for person s
+abbrev pub IsHeldLevel : List ℕ → ℕ → ℕ → Type 0
+IsHeldLevel levels s b = b ≡ heldLevel levels s

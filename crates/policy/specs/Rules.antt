@@ -1,10 +1,12 @@
--- The four rules (document 01, "Four rules", and document 02, Points 1 and 2) over the tables and the set H of the requests granted so far.
+-- The four rules (document 01, "Four rules", and document 02, Points 1, 2 and 5) over the tables and the set H of the requests granted so far.
 use Prim.Native.Nat.{ℕ, zero, suc, _+_}
 use mathlib.Core.Bool.{Bool, true, cond, not, _&&_, _||_}
 use lib.Dec.{eqb, leb}
 use Rattle.bits.specs.Bits.{bit}
 use Rattle.bits.specs.Bounded.{anyBelow, allBelow, foldBelow, _implies_}
-use Rattle.level.specs.Levels.{atMost, meetOf}
+use Rattle.level.specs.declared.Comparison.{Comparison}
+use Rattle.level.specs.declared.Comparison.the-variants.{AtMost}
+use Rattle.level.specs.Levels.{compareOf, isAtMost, meetOf}
 use Rattle.policy.specs.declared.Tables.{Tables}
 use Rattle.policy.specs.Request.{Request, read, write, start, step, subject}
 use Rattle.policy.specs.Tables.{
@@ -129,13 +131,18 @@ module _ (t : Tables) (H : Request → Bool) where
   pipeline (start s u) = true
   pipeline (step s p o) = pipelineStep p o
 
--- person s, whose current level is `levels s`, may modify folder o: by a write, or by a step, which alters the folder too
-unfoldable pub mayModify : Tables → (ℕ → ℕ) → ℕ → ℕ → Bool
-mayModify t levels s o = atMost 12 (folderAt t o .level .0) (levels s)
+-- how the level of folder o compares with that of person s, whose current level is `levels s`, and who is to modify o: by a write, or by a
+-- step, which alters the folder too
+unfoldable pub modifying : Tables → (ℕ → ℕ) → ℕ → ℕ → Comparison
+modifying t levels s o = compareOf 12 (folderAt t o .level .0) (levels s)
 
--- low-water, over a current level for each person
+-- the outcome of low-water's comparison, over a current level for each person; a read needs none
+unfoldable pub levelOutcome : Tables → (ℕ → ℕ) → Request → Comparison
+levelOutcome t levels (read s o) = AtMost
+levelOutcome t levels (write s o) = modifying t levels s o
+levelOutcome t levels (start s u) = compareOf 12 (levels u) (levels s)
+levelOutcome t levels (step s p o) = modifying t levels s o
+
+-- low-water
 unfoldable pub lowWater : Tables → (ℕ → ℕ) → Request → Bool
-lowWater t levels (read s o) = true
-lowWater t levels (write s o) = mayModify t levels s o
-lowWater t levels (start s u) = atMost 12 (levels u) (levels s)
-lowWater t levels (step s p o) = mayModify t levels s o
+lowWater t levels r = isAtMost (levelOutcome t levels r)

@@ -3,7 +3,7 @@
 -- standing gives, which is the stored one, and then of the level that a history gives.
 use Prim.Native.Nat.{ℕ, _≤_}
 use mathlib.Core.Path.{_≡_}
-use mathlib.Core.Logic.{_↔_}
+use mathlib.Core.Logic.{_⊎_, _↔_}
 use mathlib.Core.Bool.{true, false}
 use mathlib.Core.List.{List}
 use Rattle.level.specs.Levels.{atMost, meetOf}
@@ -14,6 +14,10 @@ use Rattle.policy.specs.Rules.{currentLevel}
 use Rattle.policy.specs.Calls.{State, blankNumber, blankState, judgeNumber, putState, standing}
 use Rattle.policy.specs.Published.{LowWaterInForce, Observes}
 use Rattle.policy.specs.Causes.{AtFront, PartiesDeclared}
+
+-- a number with which low-water refuses: 15, and 21 (document 02, Point 5)
+abbrev pub OfLowWater : ℕ → Type 0
+OfLowWater n = (n ≡ 15) ⊎ (n ≡ 21)
 
 -- the record of r does not stand at the front of the bytes
 abbrev pub NotAtFront : Request → List ℕ → Type 0
@@ -28,11 +32,11 @@ abbrev pub givenLevel : Tables → State → ℕ → ℕ
 givenLevel t a s = currentLevel t (setOf (a .history)) s
 
 pub record StepsAlter : Type 0 where
-  -- "a step needs folder level ≤ current level, as a write does": low-water, whose number is 15, refuses a step exactly where it refuses
-  -- a write
+  -- "a step needs folder level ≤ current level, as a write does": low-water refuses a step exactly where it refuses a write, and with the
+  -- same number
   pub asWrite :
-      (t : Tables) (a : State) (bytes bytes′ rest rest′ : List ℕ) (s p o : ℕ) → p ≤ 15 → AtFront (step s p o) bytes rest
-      → AtFront (write s o) bytes′ rest′ → (judgeNumber t a bytes ≡ 15) ↔ (judgeNumber t a bytes′ ≡ 15)
+      (t : Tables) (a : State) (bytes bytes′ rest rest′ : List ℕ) (s p o n : ℕ) → p ≤ 15 → AtFront (step s p o) bytes rest
+      → AtFront (write s o) bytes′ rest′ → OfLowWater n → (judgeNumber t a bytes ≡ n) ↔ (judgeNumber t a bytes′ ≡ n)
   -- the level that counts is the current one, before the step: a step granted under low-water has a folder level at most that of standing,
   -- and one refused by low-water has not
   pub granted :
@@ -40,14 +44,14 @@ pub record StepsAlter : Type 0 where
       → judgeNumber t a bytes ≡ 0 → atMost 12 (folderAt t o .level .0) (standing t a s .level .0) ≡ true
   pub refused :
       (t : Tables) (a : State) (bytes rest : List ℕ) (s p o : ℕ) → AtFront (step s p o) bytes rest
-      → judgeNumber t a bytes ≡ 15 → atMost 12 (folderAt t o .level .0) (standing t a s .level .0) ≡ false
+      → OfLowWater (judgeNumber t a bytes) → atMost 12 (folderAt t o .level .0) (standing t a s .level .0) ≡ false
   -- a start is judged by the same levels, those that standing gives to both persons
   pub startGranted :
       (t : Tables) (a : State) (bytes rest : List ℕ) (s u : ℕ) → AtFront (start s u) bytes rest → LowWaterInForce t
       → judgeNumber t a bytes ≡ 0 → atMost 12 (standing t a u .level .0) (standing t a s .level .0) ≡ true
   pub startRefused :
       (t : Tables) (a : State) (bytes rest : List ℕ) (s u : ℕ) → AtFront (start s u) bytes rest
-      → judgeNumber t a bytes ≡ 15 → atMost 12 (standing t a u .level .0) (standing t a s .level .0) ≡ false
+      → OfLowWater (judgeNumber t a bytes) → atMost 12 (standing t a u .level .0) (standing t a s .level .0) ≡ false
   -- "a step granted also lowers the person as a read does", whatever rules are in force
   pub lowers :
       (t : Tables) (a : State) (bytes rest : List ℕ) (s p o : ℕ) → AtFront (step s p o) bytes rest → judgeNumber t a bytes ≡ 0

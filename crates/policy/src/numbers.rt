@@ -45,8 +45,8 @@ pub const UNDECLARED: u8 = 13;
 // The wall refuses.
 pub const WALL: u8 = 14;
 
-// Low-water refuses.
-pub const LOW_WATER: u8 = 15;
+// Low-water refuses: the rank is too low, also if a compartment is missing besides.
+pub const RANK_TOO_LOW: u8 = 15;
 
 // Roles refuse.
 pub const ROLES: u8 = 16;
@@ -62,3 +62,6 @@ pub const FOLDER_NOT_DECLARED: u8 = 19;
 
 // Levels not 128 bytes.
 pub const WRONG_LEVELS_LENGTH: u8 = 20;
+
+// Low-water refuses, in the place of 15: the rank suffices, and a compartment is missing.
+pub const COMPARTMENT_MISSING: u8 = 21;

@@ -1,7 +1,7 @@
 -- `judge_past` is the first of wall, low-water and roles that refuses, over what the person did.
 use mathlib.Core.Path.{refl, sym, _∙_}
 use denote.Ref.{now}
-use borrow.Author.Tests.{not-true, not-false}
+use borrow.Author.Tests.{ne-eqb, not-true, not-false}
 use borrow.Author.Needs.{needs}
 use Rattle.policy.specs.Request.{setOf}
 use Rattle.policy.specs.Levels.{levelAt}
@@ -33,8 +33,8 @@ returns c =
     (args .right) (args .modifies) (start .pre .2) (wall .before .past-of .ensures)
     (sym (not-true _ (c .if1 .taken)) ∙ wall .wall-passes .ensures) refl refl
 
-level-passes-requires : tie.Need-level-passes-requires
-level-passes-requires c κs =
+level-number-requires : tie.Need-level-number-requires
+level-number-requires c κs =
     let start = c .before .before .before .before .before .before in
     (start .pre .0 .held, start .pre .1, start .pre .2)
 
@@ -43,10 +43,11 @@ returns-2 c =
     let start = c .before .before .before .before .before .before .before .before in
     let args = start .args in
     let wall = c .before .before .before in
-    access-by (tablesOf (now (args .t))) (setOf (now (args .h))) (levelAt (now (args .l))) (start .pre .0 .tables) (args .s) (args .o)
+    let refused = ne-eqb (c .before .level-number .result) 0 (c .if2 .taken) in
+    rw refused at
+    (access-by (tablesOf (now (args .t))) (setOf (now (args .h))) (levelAt (now (args .l))) (start .pre .0 .tables) (args .s) (args .o)
     (args .right) (args .modifies) (start .pre .2) (wall .before .past-of .ensures)
-    (sym (not-false _ (c .before .before .if1 .left)) ∙ wall .wall-passes .ensures)
-    (sym (not-true _ (c .if2 .taken)) ∙ c .before .level-passes .ensures) refl
+    (sym (not-false _ (c .before .before .if1 .left)) ∙ wall .wall-passes .ensures) (c .before .level-number .ensures) refl)
 
 roles-pass-requires : tie.Need-roles-pass-requires
 roles-pass-requires c κs = search needs
@@ -60,7 +61,7 @@ returns-3 c =
     access-by (tablesOf (now (args .t))) (setOf (now (args .h))) (levelAt (now (args .l))) (start .pre .0 .tables) (args .s) (args .o)
     (args .right) (args .modifies) (start .pre .2) (wall .before .past-of .ensures)
     (sym (not-false _ (level .before .if1 .left)) ∙ wall .wall-passes .ensures)
-    (sym (not-false _ (c .before .before .if2 .left)) ∙ level .level-passes .ensures)
+    (sym (c .before .before .if2 .left) ∙ level .level-number .ensures)
     (sym (not-true _ (c .if3 .taken)) ∙ c .before .roles-pass .ensures)
 
 returns-4 : tie.Need-returns-4
@@ -72,7 +73,7 @@ returns-4 c =
     access-by (tablesOf (now (args .t))) (setOf (now (args .h))) (levelAt (now (args .l))) (start .pre .0 .tables) (args .s) (args .o)
     (args .right) (args .modifies) (start .pre .2) (wall .before .past-of .ensures)
     (sym (not-false _ (level .before .if1 .left)) ∙ wall .wall-passes .ensures)
-    (sym (not-false _ (c .before .before .if2 .left)) ∙ level .level-passes .ensures)
+    (sym (c .before .before .if2 .left) ∙ level .level-number .ensures)
     (sym (not-false _ (c .if3 .left)) ∙ c .before .roles-pass .ensures)
 
 pub judge-past-spec : {M : Type 1} → statement M
@@ -83,7 +84,7 @@ judge-past-spec =
     past-of-requires
     wall-passes-requires
     returns
-    level-passes-requires
+    level-number-requires
     returns-2
     roles-pass-requires
     returns-3

@@ -1,35 +1,16 @@
 -- `judge_start` is 13 for undeclared parties, and otherwise low-water of both stored levels, then roles with right 32.
 use mathlib.Core.Path.{sym, _∙_}
-use mathlib.Core.Logic.{inr}
-use borrow.Author.Tests.{not-true, not-false}
 use denote.Ref.{now}
+use borrow.Author.Tests.{ne-eqb, not-true, not-false}
+use borrow.Author.Needs.{needs}
 use Rattle.bits.proofs.Booleans.{and-both}
-use Rattle.policy.specs.Tables.{personDeclared, inForce, wallRule}
+use Rattle.policy.specs.Tables.{personDeclared}
 use Rattle.policy.specs.Request.{start}
 use Rattle.policy.specs.Rules.{declared}
-use Rattle.policy.proofs.Requests.{person-below}
 use Rattle.packed.specs.Packed.{tablesOf}
-use Rattle.judging.specs.Judging.{startNumber}
-use Rattle.judging.proofs.JudgingLaws.{
-  whole-part,
-  implies-true,
-  passes,
-  known-both,
-  number-none,
-  number-alone,
-  not-declared,
-  start-number,
-}
-use borrow.Author.Needs.{needs}
+use Rattle.judging.proofs.JudgingLaws.{whole-part, known-both, not-declared, start-by, start-number}
 use Rattle.judging.proofs.judge_start.Statement.{statement}
 use Rattle.judging.proofs.judge_start.Tie as tie
-use Rattle.judging.proofs.judge_start.Reads as reads
-use Rattle.judging.proofs.judge_start.Lts as lts
-use Rattle.judging.proofs.are_persons.Reads as are-persons-reads
-use Rattle.judging.proofs.judge_level.Reads as judge-level-reads
-use Rattle.judging.proofs.judge_start_past.Reads as judge-start-past-reads
-use Rattle.packed.proofs.in_force.Reads as in-force-reads
-use Rattle.levels.proofs.entry.Reads as entry-reads
 
 are-persons-requires : tie.Need-are-persons-requires
 are-persons-requires c κs = search needs
@@ -38,45 +19,35 @@ returns : tie.Need-returns
 unfolding declared
 returns c = sym (not-declared _ _ _ (start _ _) (sym (c .before .are-persons .ensures) ∙ not-true _ (c .if1 .taken)))
 
-in-force-requires : tie.Need-in-force-requires
-in-force-requires c κs = search needs
-
-sub-judge-start-past : tie.Need-sub-judge-start-past
-sub-judge-start-past c = search needs
-
-part-judge-start-past-start : tie.Need-part-judge-start-past-start
-part-judge-start-past-start c = search needs
-
-part-judge-start-past-end : tie.Need-part-judge-start-past-end
-part-judge-start-past-end c = search needs
-
-judge-start-past-requires : tie.Need-judge-start-past-requires
-judge-start-past-requires c κs =
-    let start = c .before .before .before .before .before .before .before in
+start-number-requires : tie.Need-start-number-requires
+start-number-requires c κs =
+    let start = c .before .before .before .before in
     let t = tablesOf (now (start .args .t)) in
-    let are-persons = c .before .before .before .before .are-persons in
+    let are-persons = c .before .are-persons in
     let known =
     known-both (personDeclared t (start .args .s)) (personDeclared t (start .args .u))
-    (are-persons .result) (are-persons .ensures) (c .before .before .before .if1 .left) in
-    rw whole-part (start .pre, known .0, known .1)
+    (are-persons .result) (are-persons .ensures) (c .if1 .left) in
+    (start .pre .held, known .0, known .1)
 
 returns-2 : tie.Need-returns-2
 unfolding declared
 returns-2 c =
-    let start = c .before .before .before .before .before .before .before .before in
+    let start = c .before .before .before .before .before .before in
     let t = tablesOf (now (start .args .t)) in
-    let are-persons = c .before .before .before .before .before .are-persons in
+    let are-persons = c .before .before .before .are-persons in
     let known =
     known-both (personDeclared t (start .args .s)) (personDeclared t (start .args .u))
-    (are-persons .result) (are-persons .ensures) (c .before .before .before .before .if1 .left) in
-    rw whole-part at (c .judge-start-past .ensures)
-    ∙ sym (start-number _ _ _ (start .pre .tables) _ _ (and-both _ _ (known .0) (known .1)))
+    (are-persons .result) (are-persons .ensures) (c .before .before .if1 .left) in
+    let number = c .before .start-number in
+    sym
+    (start-number _ _ _ (start .pre .tables) _ _ (and-both _ _ (known .0) (known .1)) ∙ start-by _ _ _ _ _ _ (number .ensures)
+    ∙ rw (ne-eqb (number .result) 0 (c .if2 .taken)))
 
-in-force-requires-2 : tie.Need-in-force-requires-2
-in-force-requires-2 c κs = search needs
+in-force-requires : tie.Need-in-force-requires
+in-force-requires c κs = search needs
 
 returns-3 : tie.Need-returns-3
-unfolding declared startNumber
+unfolding declared
 returns-3 c =
     let start = c .before .before .before .before .before .before .before .before in
     let t = tablesOf (now (start .args .t)) in
@@ -84,46 +55,59 @@ returns-3 c =
     let known =
     known-both (personDeclared t (start .args .s)) (personDeclared t (start .args .u))
     (are-persons .result) (are-persons .ensures) (c .before .before .before .before .if1 .left) in
-    let level-off = sym (c .before .in-force2 .ensures) ∙ not-true _ (c .if3 .taken) in
-    let roles-off = sym (c .before .before .before .in-force .ensures) ∙ c .before .before .if2 .left in
+    let passed = sym (c .before .before .if2 .left) ∙ c .before .before .before .start-number .ensures in
+    let off = sym (c .before .in-force .ensures) ∙ not-true _ (c .if3 .taken) in
     sym
-    (start-number _ _ _ (start .pre .tables) _ _ (and-both _ _ (known .0) (known .1))
-    ∙ number-none _ _ _ _ (implies-true (inForce t wallRule)) (passes _ _ (inr level-off)) (passes _ _ (inr roles-off)))
+    (start-number _ _ _ (start .pre .tables) _ _ (and-both _ _ (known .0) (known .1)) ∙ start-by _ _ _ _ _ 0 passed ∙ rw off)
 
-entry-requires : tie.Need-entry-requires
-entry-requires c κs =
-    let start = c .before .before .before .before .before .before .before .before in
-    let t = tablesOf (now (start .args .t)) in
-    let are-persons = c .before .before .before .before .before .are-persons in
-    let known =
-    known-both (personDeclared t (start .args .s)) (personDeclared t (start .args .u))
-    (are-persons .result) (are-persons .ensures) (c .before .before .before .before .if1 .left) in
-    (start .pre .held, person-below _ _ (known .1))
+sub-start-covered : tie.Need-sub-start-covered
+sub-start-covered c = search needs
 
-judge-level-requires : tie.Need-judge-level-requires
-judge-level-requires c κs =
+part-start-covered-start : tie.Need-part-start-covered-start
+part-start-covered-start c = search needs
+
+part-start-covered-end : tie.Need-part-start-covered-end
+part-start-covered-end c = search needs
+
+start-covered-requires : tie.Need-start-covered-requires
+start-covered-requires c κs =
     let start = c .before .before .before .before .before .before .before .before .before in
     let t = tablesOf (now (start .args .t)) in
     let are-persons = c .before .before .before .before .before .before .are-persons in
     let known =
     known-both (personDeclared t (start .args .s)) (personDeclared t (start .args .u))
     (are-persons .result) (are-persons .ensures) (c .before .before .before .before .before .if1 .left) in
-    (start .pre .held, person-below _ _ (known .0))
+    rw whole-part (start .pre .tables, start .pre .size, known .0)
 
 returns-4 : tie.Need-returns-4
-unfolding declared startNumber
+unfolding declared
 returns-4 c =
-    let start = c .before .before .before .before .before .before .before .before .before .before in
+    let start = c .before .before .before .before .before .before .before .before .before .before .before in
     let t = tablesOf (now (start .args .t)) in
-    let are-persons = c .before .before .before .before .before .before .before .are-persons in
+    let are-persons = c .before .before .before .before .before .before .before .before .are-persons in
     let known =
     known-both (personDeclared t (start .args .s)) (personDeclared t (start .args .u))
-    (are-persons .result) (are-persons .ensures) (c .before .before .before .before .before .before .if1 .left) in
-    let level-on = sym (c .before .before .before .in-force2 .ensures) ∙ not-false _ (c .before .before .if3 .left) in
-    let roles-off = sym (c .before .before .before .before .before .in-force .ensures) ∙ c .before .before .before .before .if2 .left in
-    c .judge-level .ensures ∙ rw (c .before .entry .ensures)
-    (sym (start-number _ _ _ (start .pre .tables) _ _ (and-both _ _ (known .0) (known .1))
-    ∙ number-alone _ _ _ level-on roles-off))
+    (are-persons .result) (are-persons .ensures) (c .before .before .before .before .before .before .before .if1 .left) in
+    let passed = sym (c .before .before .before .before .before .if2 .left) ∙ c .before .before .before .before .before .before .start-number .ensures in
+    let on = sym (c .before .before .before .before .in-force .ensures) ∙ not-false _ (c .before .before .before .if3 .left) in
+    let covered = sym (rw whole-part at (c .before .start-covered .ensures)) ∙ c .if4 .taken in
+    sym
+    (start-number _ _ _ (start .pre .tables) _ _ (and-both _ _ (known .0) (known .1)) ∙ start-by _ _ _ _ _ 0 passed ∙ rw (on, covered))
+
+returns-5 : tie.Need-returns-5
+unfolding declared
+returns-5 c =
+    let start = c .before .before .before .before .before .before .before .before .before .before .before in
+    let t = tablesOf (now (start .args .t)) in
+    let are-persons = c .before .before .before .before .before .before .before .before .are-persons in
+    let known =
+    known-both (personDeclared t (start .args .s)) (personDeclared t (start .args .u))
+    (are-persons .result) (are-persons .ensures) (c .before .before .before .before .before .before .before .if1 .left) in
+    let passed = sym (c .before .before .before .before .before .if2 .left) ∙ c .before .before .before .before .before .before .start-number .ensures in
+    let on = sym (c .before .before .before .before .in-force .ensures) ∙ not-false _ (c .before .before .before .if3 .left) in
+    let covered = sym (rw whole-part at (c .before .start-covered .ensures)) ∙ c .if4 .left in
+    sym
+    (start-number _ _ _ (start .pre .tables) _ _ (and-both _ _ (known .0) (known .1)) ∙ start-by _ _ _ _ _ 0 passed ∙ rw (on, covered))
 
 pub judge-start-spec : {M : Type 1} → statement M
 judge-start-spec =
@@ -131,14 +115,13 @@ judge-start-spec =
     (tie.spec
     are-persons-requires
     returns
-    in-force-requires
-    sub-judge-start-past
-    part-judge-start-past-start
-    part-judge-start-past-end
-    judge-start-past-requires
+    start-number-requires
     returns-2
-    in-force-requires-2
+    in-force-requires
     returns-3
-    entry-requires
-    judge-level-requires
-    returns-4)
+    sub-start-covered
+    part-start-covered-start
+    part-start-covered-end
+    start-covered-requires
+    returns-4
+    returns-5)
