@@ -1,6 +1,6 @@
 /* The marked day of document 01 (P1): loads the printed book, runs its ten requests from blank and prints the answers. Then a lobby with
- * a public folder, a book that is refused with 19, a post room whose steps lower, the level that is then stored for its person, and a call
- * that is answered 20. Exits with 1 if something else is answered than stands here. */
+ * a public folder, a book that is refused with 19, a post room whose steps lower, the level that is then stored for its person, a call
+ * that is answered 20, and a counter that asks which clearance is wanting. Exits with 1 if something else is answered than stands here. */
 #include "kweldabe.h"
 
 #include <stdio.h>
@@ -34,32 +34,48 @@ static const uint8_t passed[] = {0, 14, 0, 14};
 /* A mark of a folder that is not declared: 19 at 2. */
 static const uint8_t undeclared[] = {1, 1, 7, 2, 0};
 
-/* Low-water alone: a step on folder 1 lowers the person, so that a write in folder 0 and a step on folder 2 are refused. */
+/* Low-water alone: a step on folder 1 lowers the person, so that a write in folder 0 and a step on folder 2 are refused: for the one the
+ * rank is too low, and for the other a compartment is missing. */
 static const uint8_t post_room[] = {
     1, 2, 2, 0, 0, 3, 0, 3, 32, 4, 0, 0, 0, 3, 32, 4, 1, 0, 0, 1, 16, 4, 2, 0, 0, 4, 16, 0,
 };
 
 static const uint8_t steps[] = {19, 0, 5, 1, 17, 0, 0, 19, 0, 3, 2, 19, 0, 0, 1};
 
-static const uint8_t lowered[] = {0, 15, 15, 0};
+static const uint8_t lowered[] = {0, 15, 21, 0};
+
+/* Low-water alone: person 0 writes in three folders, and each person starts the other. A compartment is missing for folder 0 and for the
+ * start of person 1. The rank is too low for folder 1, where a compartment is missing besides, for folder 2 and for the start of
+ * person 0. */
+static const uint8_t counter[] = {
+    1, 2, 2, 0, 0, 3, 0, 1, 32, 3, 1, 3, 16, 4, 0, 0, 0, 3, 16, 4, 1, 0, 0, 3, 48, 4, 2, 0, 0, 1, 48, 0,
+};
+
+static const uint8_t wishes[] = {17, 0, 0, 17, 0, 1, 17, 0, 2, 18, 0, 1, 18, 1, 0};
+
+static const uint8_t wanting[] = {21, 15, 15, 21, 15};
 
 static uint8_t history[KWELDABE_HISTORY_BYTES];
 static uint8_t levels[KWELDABE_LEVELS_BYTES];
 static uint8_t answers[sizeof expected];
 
-/* Runs four requests from blank, and says whether the answers are these. */
+/* Runs requests from blank, and says whether the answers are these. */
 static int answered(const char *name, const uint8_t *rules, size_t rules_length, const uint8_t *asked, size_t asked_length,
-                    const uint8_t *numbers) {
+                    const uint8_t *numbers, size_t count) {
     if (kweldabe_blank(rules, rules_length, history, sizeof history, levels, sizeof levels) != 0) {
         return 0;
     }
-    kweldabe_run(rules, rules_length, history, sizeof history, levels, sizeof levels, asked, asked_length, answers, 4);
-    printf("%s %u %u %u %u\n", name, (unsigned)answers[0], (unsigned)answers[1], (unsigned)answers[2], (unsigned)answers[3]);
-    return memcmp(answers, numbers, 4) == 0;
+    kweldabe_run(rules, rules_length, history, sizeof history, levels, sizeof levels, asked, asked_length, answers, count);
+    printf("%s", name);
+    for (size_t i = 0; i < count; i++) {
+        printf(" %u", (unsigned)answers[i]);
+    }
+    printf("\n");
+    return memcmp(answers, numbers, count) == 0;
 }
 
 static int lobby_is_open(void) {
-    return answered("lobby", lobby, sizeof lobby, visits, sizeof visits, passed) &&
+    return answered("lobby", lobby, sizeof lobby, visits, sizeof visits, passed, sizeof passed) &&
            kweldabe_load(undeclared, sizeof undeclared) == (2 << 8 | 19);
 }
 
@@ -71,7 +87,8 @@ static unsigned level_of(uint8_t person) {
 
 /* The person's level is then that of folder 1. */
 static int steps_alter(void) {
-    return answered("post room", post_room, sizeof post_room, steps, sizeof steps, lowered) && level_of(0) == 0x1001;
+    return answered("post room", post_room, sizeof post_room, steps, sizeof steps, lowered, sizeof lowered) &&
+           level_of(0) == 0x1001;
 }
 
 /* It is stored in the person's two bytes, the low one first. A level that the caller stores counts as it stands, and a call with levels of
@@ -84,6 +101,11 @@ static int levels_are_held(void) {
     const uint8_t number = kweldabe_judge(post_room, sizeof post_room, history, sizeof history, levels, sizeof levels - 1, steps, 4);
     printf("levels of 127 bytes %u\n", (unsigned)number);
     return stored == 0x1001 && changed == 0x2001 && number == 20;
+}
+
+/* 15 or 21, for writes and starts alike. */
+static int clearance_is_told(void) {
+    return answered("counter", counter, sizeof counter, wishes, sizeof wishes, wanting, sizeof wanting);
 }
 
 int main(void) {
@@ -102,5 +124,6 @@ int main(void) {
     }
     printf("granted %u refused %u\n", (unsigned)(ran >> 8 & 0xffffff), (unsigned)(ran >> 32 & 0xffffff));
     const int same = memcmp(answers, expected, sizeof expected) == 0;
-    return same && ran == ((uint64_t)5 << 32 | 5 << 8) && lobby_is_open() && steps_alter() && levels_are_held() ? 0 : 1;
+    const int counted = ran == ((uint64_t)5 << 32 | 5 << 8);
+    return same && counted && lobby_is_open() && steps_alter() && levels_are_held() && clearance_is_told() ? 0 : 1;
 }

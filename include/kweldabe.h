@@ -1,4 +1,4 @@
-/* The access monitor of document 01, with Points 1 to 4 of document 02, for C. The functions are in libexports.a, which
+/* The access monitor of document 01, with Points 1 to 5 of document 02, for C. The functions are in libexports.a, which
  * `rt staticlib exports` writes.
  *
  * Bytes are lent as a pointer and a length. A pointer is never null, also where the length is 0, and points to as many readable bytes
@@ -14,9 +14,12 @@
  * part in the pipeline, and its firm counts in a standing. A book is refused with 4 if that folder is out of range, with 5 if it was
  * marked before, and with 19 if it is not declared earlier.
  *
- * A step alters its folder: low-water refuses it with 15 where it refuses a write, and a granted step lowers its person as a read does,
- * whatever rules are in force. So a person's current level is the meet of the first level and the levels of all folders that the person
- * has read or stepped on.
+ * A step alters its folder: low-water refuses it where it refuses a write, with the same number, and a granted step lowers its person as
+ * a read does, whatever rules are in force. So a person's current level is the meet of the first level and the levels of all folders that
+ * the person has read or stepped on.
+ *
+ * Low-water refuses a write, a step or a start with 15 where the rank is too low, also when a compartment is missing besides, and with 21
+ * where the rank suffices and a compartment is missing. Both stand in one place of the order of checks: after 14, before 16 and 17.
  *
  * The levels are a second buffer, lent beside the history, that holds these levels ready: 128 bytes, the level of person s in two bytes
  * at 2 * s, the low byte first. Blank sets them to the first levels, and to zero for undeclared persons. A granted read or step sets the

@@ -1,6 +1,7 @@
 //! The access monitor of document 01, with Points 1 (public folders), 2 (a
-//! step alters the folder), 3 (empty stretches skipped) and 4 (levels held
-//! ready) of document 02, proved in Rattle and called from Rust.
+//! step alters the folder), 3 (empty stretches skipped), 4 (levels held ready)
+//! and 5 (rank or compartment) of document 02, proved in Rattle and called from
+//! Rust.
 //!
 //! A call that needs the tables of a rulebook takes the bytes of the book and
 //! loads it. A refused book is answered with its number, 1 to 9 or 19. A call
@@ -11,8 +12,11 @@
 //! for it and does not count it among the folders already opened. A book that
 //! marks a folder not declared earlier is refused with 19.
 //!
-//! Low-water refuses a step with 15 where it refuses a write, and a granted
-//! step lowers its person as a read does, whatever rules are in force.
+//! Low-water refuses a write, a step or a start with 15 where the rank is too
+//! low, also when a compartment is missing besides, and with 21 where the rank
+//! suffices and a compartment is missing. Both stand in one place of the order of
+//! checks, after 14 and before 16. A granted step lowers its person as a read
+//! does, whatever rules are in force.
 //!
 //! The levels lent beside the history hold each person's current level, that of
 //! person s in two bytes at 2 × s, the low byte first. Blank sets them to the

@@ -3,6 +3,7 @@
 
 mod altered;
 mod books;
+mod clearance;
 mod held;
 mod lengths;
 mod marks;

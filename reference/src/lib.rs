@@ -1,9 +1,9 @@
 //! A second reckoning of the shared-office access monitor, written from the
 //! papers alone. It follows the sections "Rulebook", "History", "Levels",
 //! "Four rules" and "Requests and calls" word by word, and Points 1 (public
-//! folders), 2 (a step alters the folder) and 4 (levels held ready) of the later
-//! requests, with sets of requests and plain loops, so that a reader can check
-//! it by hand.
+//! folders), 2 (a step alters the folder), 4 (levels held ready) and 5 (rank or
+//! compartment) of the later requests, with sets of requests and plain loops, so
+//! that a reader can check it by hand.
 
 pub mod answers;
 pub mod book;
@@ -28,7 +28,7 @@ pub mod tables;
 pub use book::{load, rest, Loaded};
 pub use buffers::Buffers;
 pub use calls::{blank, judge, put, run, standing, Ran, Standing};
-pub use level::Level;
+pub use level::{Compared, Level};
 pub use request::Request;
 pub use state::State;
 pub use tables::{given, Tables};

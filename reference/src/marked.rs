@@ -57,5 +57,23 @@ pub const STEP_BOOK: [u8; 28] = [
 /// step that it allows.
 pub const STEP_REQUESTS: [u8; 15] = [19, 0, 5, 1, 17, 0, 0, 19, 0, 3, 2, 19, 0, 0, 1];
 
+/// Their answers from blank: for the write the rank is too low, and for the step
+/// on the last folder a compartment is missing.
+pub const STEP_ANSWERS: [u8; 4] = [0, 15, 21, 0];
+
+/// Two persons, and three folders that person 0 may not write: a compartment is
+/// missing, the rank is too low and a compartment is missing besides, and the
+/// rank alone is too low.
+pub const CLEARANCE_BOOK: [u8; 32] = [
+    1, 2, // low-water
+    2, 0, 0, // one firm
+    3, 0, 1, 32, 3, 1, 3, 16, // persons
+    4, 0, 0, 0, 3, 16, 4, 1, 0, 0, 3, 48, 4, 2, 0, 0, 1, 48, // folders
+    0,
+];
+
+/// Three writes of person 0, and each person starts the other.
+pub const CLEARANCE_REQUESTS: [u8; 15] = [17, 0, 0, 17, 0, 1, 17, 0, 2, 18, 0, 1, 18, 1, 0];
+
 /// Their answers from blank.
-pub const STEP_ANSWERS: [u8; 4] = [0, 15, 15, 0];
+pub const CLEARANCE_ANSWERS: [u8; 5] = [21, 15, 15, 21, 15];

@@ -1,5 +1,5 @@
 //! The published numbers (the table in "Requests and calls", and of the later
-//! requests Point 1 for 19 and Point 4 for 20).
+//! requests Point 1 for 19, Point 4 for 20 and Point 5 for 15 and 21).
 
 /// Granted, loaded, blanked, run: the call did what was asked.
 pub const GRANTED: u8 = 0;
@@ -31,8 +31,9 @@ pub const REQUEST_CUT: u8 = 12;
 pub const UNDECLARED: u8 = 13;
 /// Refused by the wall.
 pub const WALL: u8 = 14;
-/// Refused by low-water.
-pub const LOW_WATER: u8 = 15;
+/// Refused by low-water: the rank is too low, also when a compartment is missing
+/// besides.
+pub const LOW_WATER_RANK: u8 = 15;
 /// Refused by roles.
 pub const ROLES: u8 = 16;
 /// Refused by the pipeline.
@@ -43,3 +44,6 @@ pub const ANSWERS_SHORT: u8 = 18;
 pub const FOLDER_UNDECLARED: u8 = 19;
 /// Level buffer not 128 bytes.
 pub const LEVELS_LENGTH: u8 = 20;
+/// Refused by low-water: the rank suffices and a compartment is missing. It is
+/// checked in the place of 15.
+pub const LOW_WATER_COMPARTMENT: u8 = 21;

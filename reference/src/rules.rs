@@ -1,10 +1,10 @@
 //! The four rules (section "Four rules", and of the later requests Point 1 for
-//! public folders, Point 2 for steps that alter and Point 4 for levels held
-//! ready) and what they look at. Each rule is asked about a request whose
-//! parties are declared.
+//! public folders, Point 2 for steps that alter, Point 4 for levels held ready
+//! and Point 5 for the two numbers of low-water) and what they look at. Each rule
+//! is asked about a request whose parties are declared.
 
 use crate::history::{counted, History};
-use crate::level::Level;
+use crate::level::{Compared, Level};
 use crate::numbers::*;
 use crate::places::lies_in;
 use crate::request::Request;
@@ -12,7 +12,8 @@ use crate::state::State;
 use crate::tables::{Tables, LOW_WATER_RULE, PIPELINE_RULE, ROLES_RULE, STEPS, WALL_RULE};
 use std::collections::BTreeSet;
 
-/// The checks 13 to 17, in this order; a rule not in force refuses nothing.
+/// The checks 13 to 17, in this order, with 21 in the place of 15; a rule not in
+/// force refuses nothing.
 pub fn judge_request(tables: &Tables, state: &State, request: &Request) -> u8 {
     let history = &state.history;
     if !request.parties_declared(tables) || !request.step_in_range() {
@@ -21,8 +22,12 @@ pub fn judge_request(tables: &Tables, state: &State, request: &Request) -> u8 {
     if tables.in_force(WALL_RULE) && !wall_grants(tables, history, request) {
         return WALL;
     }
-    if tables.in_force(LOW_WATER_RULE) && !low_water_grants(tables, state, request) {
-        return LOW_WATER;
+    if tables.in_force(LOW_WATER_RULE) {
+        match low_water(tables, state, request) {
+            Compared::AtMost => {}
+            Compared::RankTooLow => return LOW_WATER_RANK,
+            Compared::CompartmentMissing => return LOW_WATER_COMPARTMENT,
+        }
     }
     if tables.in_force(ROLES_RULE) && !roles_grant(tables, history, request) {
         return ROLES;
@@ -122,14 +127,14 @@ fn wall_grants(tables: &Tables, history: &History, request: &Request) -> bool {
 /// Low-water: write and step need the folder's level at most the stored level
 /// of the person, start needs the started person's at most the starter's. The
 /// stored level is the one before the request, also where the history would
-/// give another.
-fn low_water_grants(tables: &Tables, state: &State, request: &Request) -> bool {
+/// give another. Read passes.
+fn low_water(tables: &Tables, state: &State, request: &Request) -> Compared {
     match *request {
-        Request::Read { .. } => true,
+        Request::Read { .. } => Compared::AtMost,
         Request::Write { person, folder } | Request::Step { person, folder, .. } => {
-            tables.folder(folder).level.at_most(state.level(person))
+            tables.folder(folder).level.compare(state.level(person))
         }
-        Request::Start { person, other } => state.level(other).at_most(state.level(person)),
+        Request::Start { person, other } => state.level(other).compare(state.level(person)),
     }
 }
 

@@ -131,9 +131,9 @@ fn p8_started_after_two_reads() {
     ];
     let tables = load(&book).tables;
     let mut lent = Buffers::blank(&tables);
-    assert_eq!(lent.judge(&tables, &[18, 1, 0]), 15);
+    assert_eq!(lent.judge(&tables, &[18, 1, 0]), 21);
     assert_eq!(lent.put(&tables, &[16, 0, 0]), 0);
-    assert_eq!(lent.judge(&tables, &[18, 1, 0]), 15);
+    assert_eq!(lent.judge(&tables, &[18, 1, 0]), 21);
     assert_eq!(lent.put(&tables, &[16, 0, 1]), 0);
     assert_eq!(lent.judge(&tables, &[18, 1, 0]), 0);
     assert_eq!(lent.standing(&tables, 0).level, 0x1000);
@@ -207,6 +207,6 @@ fn books_refused_for_a_mark() {
 fn a_step_that_alters() {
     assert_eq!(
         program(&[&STEP_BOOK[..], &STEP_REQUESTS].concat()),
-        "1 0\n2 15\n3 15\n4 0\ngranted 2 refused 2\n"
+        "1 0\n2 15\n3 21\n4 0\ngranted 2 refused 2\n"
     );
 }

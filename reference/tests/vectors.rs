@@ -1,9 +1,11 @@
 //! The committed files of calls are those of the fixed seed. They hold every
 //! published number of every call and every kind of record, and requests on
 //! which a wall that counts public folders, a low-water rule that passes steps,
-//! a level that skips reads or another reading of the levels held ready would
-//! answer otherwise.
+//! a level that skips reads or another reading of the levels held ready or of the
+//! two numbers of low-water would answer otherwise.
 
+#[path = "vectors/clearance.rs"]
+mod clearance;
 #[path = "vectors/held.rs"]
 mod held;
 #[path = "vectors/monitor.rs"]
@@ -34,8 +36,8 @@ fn committed_files_equal_what_is_written() {
 /// The numbers that each call gives, all of them and no other.
 #[test]
 fn every_number_of_every_call() {
-    let requests = 12..=17;
-    let judged: Vec<u8> = [0, 10, 11].into_iter().chain(12..=17).chain([20]).collect();
+    let requests = (12..=17).chain([21]);
+    let judged: Vec<u8> = [0].into_iter().chain(10..=17).chain([20, 21]).collect();
     let calls: [(&str, Vec<u8>); 7] = [
         ("load", (0..=9).chain([19]).collect()),
         ("blank", vec![0, 10, 11, 20]),
@@ -55,7 +57,7 @@ fn every_number_of_every_call() {
         assert_eq!(given, *numbers, "{call}");
     }
     let published: BTreeSet<u8> = calls.into_iter().flat_map(|(_, numbers)| numbers).collect();
-    assert_eq!(published, (0..=20).collect());
+    assert_eq!(published, (0..=21).collect());
 }
 
 /// How many records of each kind a loaded book has.

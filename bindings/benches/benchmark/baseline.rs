@@ -13,6 +13,16 @@ fn at_most(a: u16, b: u16) -> bool {
     a >> 12 <= b >> 12 && a & b & 0xfff == a & 0xfff
 }
 
+/// The number of a refusal, asked for only where a is not at most b: 15 where
+/// the rank of b is too low, else a compartment is missing.
+fn refusal(a: u16, b: u16) -> u8 {
+    if a >> 12 > b >> 12 {
+        15
+    } else {
+        21
+    }
+}
+
 fn meet(a: u16, b: u16) -> u16 {
     (a & 0xf000).min(b & 0xf000) | a & b & 0xfff
 }
@@ -173,22 +183,22 @@ fn judge_access(
 ) -> u8 {
     let walled = in_force(t, 0) && !t.folders[o].public;
     let levelled = in_force(t, 1) && modifies;
-    let too_low = levelled && !at_most(t.folders[o].level, level_of(levels, s));
-    if walled || in_force(t, 2) && !too_low {
+    let refused = levelled && !at_most(t.folders[o].level, level_of(levels, s));
+    if walled || in_force(t, 2) && !refused {
         let past = past_of(t, h, s, stepped_by(h, s));
         if walled && !wall_permits(t, past.firms, o) {
             return 14;
         }
-        if too_low {
-            return 15;
+        if refused {
+            return refusal(t.folders[o].level, level_of(levels, s));
         }
         if in_force(t, 2) && !roles_permit(t, past.rights, right) {
             return 16;
         }
         return 0;
     }
-    if too_low {
-        15
+    if refused {
+        refusal(t.folders[o].level, level_of(levels, s))
     } else {
         0
     }
@@ -220,7 +230,7 @@ fn judge_start(t: &Tables, h: &[u8], levels: &[u8], s: usize, u: usize) -> u8 {
         return 13;
     }
     if in_force(t, 1) && !at_most(level_of(levels, u), level_of(levels, s)) {
-        return 15;
+        return refusal(level_of(levels, u), level_of(levels, s));
     }
     if in_force(t, 2) && !roles_permit(t, past_of(t, h, s, stepped_by(h, s)).rights, 32) {
         return 16;

@@ -2,6 +2,9 @@
 
 use reference::random::Random;
 
+/// Of a hundred bits by which levels are apart so many are of the rank.
+const RANK_BITS: usize = 75;
+
 /// A book: mostly a good one.
 pub fn some_book(random: &mut Random) -> Vec<u8> {
     match random.below(100) {
@@ -89,9 +92,19 @@ fn some_folders(random: &mut Random, firms: &[u8], apart: usize) -> Vec<Vec<u8>>
 fn some_level(random: &mut Random, most: u16, apart: usize) -> Vec<u8> {
     let mut level = most;
     for _ in 0..random.below(apart + 1) {
-        level &= !(1 << random.below(16));
+        level &= !(1 << some_bit(random));
     }
     level.to_le_bytes().to_vec()
+}
+
+/// A bit of a level: of the rank more often than of a compartment, so that
+/// low-water refuses for either about as often.
+pub fn some_bit(random: &mut Random) -> usize {
+    if random.chance(RANK_BITS) {
+        random.between(12, 15)
+    } else {
+        random.below(12)
+    }
 }
 
 /// Most of the rights.

@@ -4,11 +4,13 @@
 #[path = "../../benches/benchmark/baseline.rs"]
 mod baseline;
 mod books;
+mod clearance;
 mod lent;
 mod monitor;
 mod mutant;
 mod requests;
 mod scene;
+mod seen;
 #[path = "../../benches/benchmark/tables.rs"]
 mod tables;
 
@@ -17,7 +19,7 @@ use mutant::{Mutant, Mutation};
 use reference::random::Random;
 use reference::{marked, Buffers};
 use requests::Parties;
-use scene::{Seen, NUMBERS};
+use seen::{Seen, ANSWER, NUMBERS};
 
 /// The calls that the main test compares at least.
 const CALLS: usize = 100_000;
@@ -31,15 +33,27 @@ fn answers_agree() {
         calls += scene::play(&Proved, seed, &mut seen).unwrap_or_else(|found| panic!("{found}"));
         seed += 1;
     }
-    let Seen { numbers, levels } = seen;
+    let numbers = seen.own_numbers();
     println!("{calls} calls in {seed} scenes agree; each number was given so often: {numbers:?}");
     let unseen: Vec<usize> = (0..NUMBERS)
         .filter(|number| *number != 11 && numbers[*number] == 0)
         .collect();
     assert!(unseen.is_empty(), "no call gave {unseen:?}");
-    let [other, given] = levels;
+    let [other, given] = seen.levels;
     println!("{other} scenes ended on levels that the history does not give, {given} on its own");
     assert!(3 * other >= given && 3 * given >= other);
+    expect_both_refusals(&seen);
+}
+
+/// Low-water refuses with 15 about as often as with 21, by each call that judges.
+fn expect_both_refusals(seen: &Seen) {
+    for call in ["judge", "put", ANSWER] {
+        let numbers = seen.calls[call];
+        let [rank, compartment] = [numbers[15], numbers[21]];
+        println!("{call}: 15 was given {rank} times, and 21 {compartment} times");
+        assert!(rank >= 500 && compartment >= 500);
+        assert!(2 * rank >= compartment && 2 * compartment >= rank);
+    }
 }
 
 /// Runs of two thousand requests each.
@@ -67,6 +81,7 @@ fn each_mutation_is_found() {
 /// The plain Rust of the benchmark, whose own books have no public folder.
 #[test]
 fn the_baseline_agrees() {
+    let mut seen = Seen::default();
     for seed in 0..1_000 {
         let mut random = Random::new(seed);
         let book = books::some_book(&mut random);
@@ -84,7 +99,13 @@ fn the_baseline_agrees() {
         assert_eq!(ran, expected, "seed {seed}");
         assert!(plain == theirs, "seed {seed}");
         assert_eq!(answers[0], answers[1], "seed {seed}");
+        for answer in &answers[0][..ran.1 + ran.2] {
+            seen.count(ANSWER, *answer);
+        }
     }
+    let numbers = seen.calls[ANSWER];
+    println!("the baseline answered each number so often: {numbers:?}");
+    assert!(numbers[15] >= 500 && numbers[21] >= 500);
 }
 
 /// Blank, or with other levels, and now and then with levels of another length.
@@ -145,6 +166,20 @@ fn a_step_alters_the_folder() {
     let found = kweldabe::standing(book, &lent.history, &lent.levels, 0);
     assert_eq!(found.level, 0x1001);
     assert_eq!(lent.levels[..2], [0x01, 0x10]);
+}
+
+#[test]
+fn rank_or_compartment() {
+    let (book, requests) = (&marked::CLEARANCE_BOOK, &marked::CLEARANCE_REQUESTS);
+    let (ran, lent, answers) = run_from_blank(book, requests);
+    assert_eq!((ran.number, answers), (0, marked::CLEARANCE_ANSWERS));
+    for (record, number) in requests.chunks(3).zip(marked::CLEARANCE_ANSWERS) {
+        let (mut history, mut levels) = (lent.history.clone(), lent.levels.clone());
+        assert_eq!(kweldabe::judge(book, &history, &levels, record), number);
+        let given = kweldabe::put(book, &mut history, &mut levels, record);
+        assert_eq!(given, number);
+        assert!(lent == Buffers { history, levels });
+    }
 }
 
 #[test]

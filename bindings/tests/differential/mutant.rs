@@ -1,5 +1,6 @@
 //! Monitors that are wrong in one place each.
 
+use crate::clearance::Judged;
 use crate::monitor::Monitor;
 use kweldabe::{Loaded, Ran, Standing, HISTORY_BYTES, LEVELS_BYTES};
 use reference::history::set_of;
@@ -40,10 +41,23 @@ pub enum Mutation {
     JudgeLowers,
     RunDoesNotLower,
     RefusedRunLowers,
+    MissingBeforeRank,
+    NumbersExchanged,
+    AlwaysFifteen,
+    MissingGrants,
+    StartNumberTurnedRound,
+    EqualRankTooLow,
+    WriteKeepsFifteen,
+    StartKeepsFifteen,
+    StepKeepsFifteen,
+    TwentyOneBeforeWall,
+    TwentyOneAfterOthers,
+    PutAlwaysFifteen,
+    RunAlwaysFifteen,
 }
 
 impl Mutation {
-    pub const ALL: [Mutation; 31] = [
+    pub const ALL: [Mutation; 44] = [
         Mutation::BlankKeepsAByte,
         Mutation::OffsetOfNext,
         Mutation::RestOfRefused,
@@ -75,6 +89,19 @@ impl Mutation {
         Mutation::JudgeLowers,
         Mutation::RunDoesNotLower,
         Mutation::RefusedRunLowers,
+        Mutation::MissingBeforeRank,
+        Mutation::NumbersExchanged,
+        Mutation::AlwaysFifteen,
+        Mutation::MissingGrants,
+        Mutation::StartNumberTurnedRound,
+        Mutation::EqualRankTooLow,
+        Mutation::WriteKeepsFifteen,
+        Mutation::StartKeepsFifteen,
+        Mutation::StepKeepsFifteen,
+        Mutation::TwentyOneBeforeWall,
+        Mutation::TwentyOneAfterOthers,
+        Mutation::PutAlwaysFifteen,
+        Mutation::RunAlwaysFifteen,
     ];
 }
 
@@ -272,13 +299,19 @@ impl Monitor for Mutant {
             kweldabe::put(book, &mut history.to_vec(), levels, request);
         }
         match (self.mutation, number) {
-            (Mutation::LowWaterPasses, 15) => 0,
-            (Mutation::StepPassesLowWater, 15) if request[0] == 19 => {
+            (Mutation::LowWaterPasses, 15 | 21) => 0,
+            (Mutation::StepPassesLowWater, 15 | 21) if request[0] == 19 => {
                 let mut tables = tables_of(book);
                 tables.mask &= !LOW_WATER;
                 kweldabe::judge(&tables.as_book(), history, levels, request)
             }
-            _ => number,
+            _ => Judged {
+                book,
+                history,
+                levels,
+                request,
+            }
+            .mistaken(self.mutation, number),
         }
     }
 
@@ -292,7 +325,10 @@ impl Monitor for Mutant {
             history.copy_from_slice(&before);
         }
         self.stored(book, request, number, (&levels_before, levels));
-        number
+        match (self.mutation, number) {
+            (Mutation::PutAlwaysFifteen, 21) => 15,
+            _ => number,
+        }
     }
 
     fn run(
@@ -310,6 +346,11 @@ impl Monitor for Mutant {
             if let Some(byte) = answers.get_mut(ran.granted + ran.refused) {
                 *byte = 0;
             }
+        }
+        if self.is(Mutation::RunAlwaysFifteen) && ran.number == 0 {
+            let written = &mut answers[..ran.granted + ran.refused];
+            let refused = written.iter_mut().filter(|answer| **answer == 21);
+            refused.for_each(|answer| *answer = 15);
         }
         if self.is(Mutation::CountsSwapped) {
             std::mem::swap(&mut ran.granted, &mut ran.refused);

@@ -1,27 +1,16 @@
 //! A scene: one book, one history with levels, and calls on both monitors.
 
-use crate::books::{good_book, some_book};
+use crate::books::{good_book, some_bit, some_book};
 use crate::lent::Lent;
 use crate::monitor::Monitor;
 use crate::requests::Parties;
+use crate::seen::{Seen, ANSWER};
 use kweldabe::{HISTORY_BYTES, LEVELS_BYTES};
 use reference::history::set_of;
 use reference::levels::{levels_by_history, write_levels};
 use reference::random::Random;
 use reference::Buffers;
 use std::fmt::Debug;
-
-/// The numbers published so far are 0 to 20.
-pub const NUMBERS: usize = 21;
-
-#[derive(Default)]
-pub struct Seen {
-    /// How often each number was given.
-    pub numbers: [usize; NUMBERS],
-    /// How many scenes of good books ended on levels of declared persons that
-    /// the history does not give, and how many on those that it gives.
-    pub levels: [usize; 2],
-}
 
 /// The calls of a scene beside load and rest.
 const CALLS: usize = 40;
@@ -152,6 +141,10 @@ impl<'a, M: Monitor> Scene<'a, M> {
             for _ in 0..self.random.below(300) {
                 history[self.random.below(HISTORY_BYTES)] = self.random.byte();
             }
+            // The end of the buffer, which few random places reach.
+            if self.random.chance(20) {
+                history[HISTORY_BYTES - 1] = self.random.byte();
+            }
         }
         history
     }
@@ -175,8 +168,8 @@ impl<'a, M: Monitor> Scene<'a, M> {
             for person in 0..64 {
                 let declared = self.loaded.tables.person_declared(person);
                 if self.random.chance(if declared { 60 } else { 10 }) {
-                    let at = 2 * usize::from(person) + self.random.below(2);
-                    levels[at] ^= 1 << self.random.below(8);
+                    let bit = some_bit(&mut self.random);
+                    levels[2 * usize::from(person) + bit / 8] ^= 1 << (bit % 8);
                 }
             }
         }
@@ -201,7 +194,8 @@ impl<'a, M: Monitor> Scene<'a, M> {
     fn some_call(&mut self) -> Result<(), String> {
         if self.random.chance(1) {
             let at = 2 * usize::from(self.parties.person(&mut self.random) % 64);
-            self.levels[at + self.random.below(2)] ^= 1 << self.random.below(8);
+            let bit = some_bit(&mut self.random);
+            self.levels[at + bit / 8] ^= 1 << (bit % 8);
         }
         match self.random.below(100) {
             0..=1 => self.blank(),
@@ -213,9 +207,9 @@ impl<'a, M: Monitor> Scene<'a, M> {
     }
 
     /// Counts a call by its number, and checks the bytes of the book.
-    fn ended(&mut self, call: &str, number: u8) -> Result<(), String> {
+    fn ended(&mut self, call: &'static str, number: u8) -> Result<(), String> {
         self.calls += 1;
-        self.seen.numbers[usize::from(number)] += 1;
+        self.seen.count(call, number);
         kept(call, "book", &self.book, &self.book_before)
     }
 
@@ -347,6 +341,9 @@ impl<'a, M: Monitor> Scene<'a, M> {
         ours.kept("run", &theirs)?;
         kept("run", "requests", &asked, &requests)?;
         kept("run", "answers", &our_answers, &their_answers)?;
+        for answer in &their_answers[..ran.1 + ran.2] {
+            self.seen.count(ANSWER, *answer);
+        }
         self.keep(theirs);
         self.ended("run", ran.0)
     }

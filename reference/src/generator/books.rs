@@ -59,16 +59,22 @@ pub fn good_records(random: &mut Random, plan: &Plan) -> Vec<Vec<u8>> {
 }
 
 /// Some levels of folders: a falling row of them, and two at random beside the
-/// longest.
+/// longest. From one to the next the rank falls, or compartments are taken away,
+/// or both, so that each may be what is missing.
 fn some_levels(random: &mut Random, row: usize) -> Vec<u16> {
     let mut levels = Vec::new();
     let mut rank = 15;
     let mut compartments: u16 = 0x0fff;
     for _ in 0..row {
         levels.push(rank * 4096 + compartments);
-        rank -= random.below(3) as u16;
-        for _ in 0..random.below(4) {
-            compartments &= !(1 << random.below(12));
+        let falls = random.below(10);
+        if falls >= 7 {
+            rank -= random.between(1, 2) as u16;
+        }
+        if falls < 7 || falls == 9 {
+            for _ in 0..random.between(1, 3) {
+                compartments &= !(1 << random.below(12));
+            }
         }
     }
     if row == LONGEST_ROW {

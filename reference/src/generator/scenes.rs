@@ -146,6 +146,7 @@ impl Generator {
         self.judge(&[19, 1, 2, 2]);
         self.public_folder();
         self.altering_step();
+        self.rank_or_compartment();
     }
 
     /// P7 and P8, and the order of levels that have no order.

@@ -21,7 +21,7 @@ struct Along {
 
 /// By reading and call: how often the numbers are otherwise, and how often the
 /// levels are which were not when they were printed last.
-type Found = BTreeMap<(Reading, &'static str), [usize; 2]>;
+pub type Found = BTreeMap<(Reading, &'static str), [usize; 2]>;
 
 impl Along {
     fn compare(&mut self, name: &'static str, ours: &Printed, right: &Printed, found: &mut Found) {
@@ -85,7 +85,7 @@ fn play_along(readings: &[Reading]) -> Found {
 
 /// What tells a reading apart: the call, and the least number of times that its
 /// numbers are otherwise and that its levels are.
-type Least = (Reading, &'static [(&'static str, [usize; 2])]);
+pub type Least = (Reading, &'static [(&'static str, [usize; 2])]);
 
 /// The same of each of the five calls.
 const FROM_EACH: &[(&str, [usize; 2])] = &[
@@ -151,20 +151,26 @@ const LEAST: [Least; 17] = [
 
 #[test]
 fn each_wrong_reading_is_told_apart() {
-    let readings: Vec<Reading> = LEAST.iter().map(|(reading, _)| *reading).collect();
+    expect_told_apart(&LEAST);
+}
+
+/// Plays with these readings: each is told apart at least so often.
+pub fn expect_told_apart(least: &[Least]) -> Found {
+    let readings: Vec<Reading> = least.iter().map(|(reading, _)| *reading).collect();
     let found = play_along(&readings);
     for ((reading, call), counts) in &found {
         println!("{reading:?}, {call}: numbers and levels otherwise {counts:?}");
     }
-    for (reading, least) in LEAST {
-        for (call, least) in least {
-            let counts = found[&(reading, *call)];
+    for (reading, least) in least {
+        for (call, least) in *least {
+            let counts = found[&(*reading, *call)];
             assert!(
                 counts[0] >= least[0] && counts[1] >= least[1],
                 "{reading:?}, {call}: {counts:?}"
             );
         }
     }
+    found
 }
 
 /// How often the levels are those that the history gives, and how often not.

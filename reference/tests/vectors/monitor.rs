@@ -1,6 +1,7 @@
-//! A monitor that reads the levels held ready in its own way. It has a level
-//! buffer of its own and takes all else as it is.
+//! A monitor that reads the levels held ready, or the two numbers of low-water,
+//! in its own way. It has a level buffer of its own and takes all else as it is.
 
+use crate::clearance;
 use crate::past::persons_of;
 use crate::under;
 use crate::walk::{each_in_run, fronts};
@@ -11,7 +12,8 @@ use reference::request::read_record;
 use reference::rules::{current_level, firms_opened, rights_used};
 use reference::{given, Level, Request, State, Tables};
 
-/// The right reading of Point 4, and wrong ones.
+/// The right reading of Points 4 and 5, and wrong ones: first of the levels held
+/// ready, then, from `MissingBeforeRank` on, of the numbers of low-water.
 #[derive(Clone, Copy, PartialEq, Eq, PartialOrd, Ord, Debug)]
 pub enum Reading {
     Right,
@@ -32,6 +34,18 @@ pub enum Reading {
     HighByteFirst,
     JudgeLowers,
     RefusedRunLowers,
+    MissingBeforeRank,
+    NumbersExchanged,
+    AlwaysFifteen,
+    AlwaysTwentyOne,
+    MissingGrants,
+    StartNumberTurnedRound,
+    EqualRankTooLow,
+    WriteKeepsFifteen,
+    StartKeepsFifteen,
+    StepKeepsFifteen,
+    TwentyOneBeforeWall,
+    TwentyOneAfterOthers,
 }
 
 use Reading::*;
@@ -203,7 +217,8 @@ impl Monitor {
         }
     }
 
-    fn low_water_grants(&self, tables: &Tables, asked: &Asked) -> bool {
+    /// 0 where low-water grants, 15 or 21.
+    fn low_water(&self, tables: &Tables, asked: &Asked) -> u8 {
         let level = |person: u8| match self.reading {
             LowWaterByHistory => {
                 let found = asked.by_history.iter().find(|(it, _)| *it == person);
@@ -212,9 +227,10 @@ impl Monitor {
             _ => self.level(person),
         };
         match asked.request {
-            Request::Read { .. } => true,
+            Request::Read { .. } => 0,
             Request::Write { person, folder } | Request::Step { person, folder, .. } => {
-                tables.folder(folder).level.at_most(&level(person))
+                let levels = [tables.folder(folder).level, level(person)];
+                clearance::number(self.reading, &asked.request, levels)
             }
             Request::Start { person, other } => {
                 let (started, starter) = match self.reading {
@@ -222,16 +238,22 @@ impl Monitor {
                     StartTurnedRound => (person, other),
                     _ => (other, person),
                 };
-                level(started).at_most(&level(starter))
+                let levels = [level(started), level(starter)];
+                clearance::number(self.reading, &asked.request, levels)
             }
         }
     }
 
     /// The wall before the levels, and the other rules after them.
     fn number(&self, tables: &Tables, asked: &Asked) -> u8 {
-        match asked.others {
-            0 | 16 | 17 if tables.mask & 2 != 0 && !self.low_water_grants(tables, asked) => 15,
-            others => others,
+        if tables.mask & 2 == 0 || asked.others == 13 {
+            return asked.others;
+        }
+        match (self.reading, self.low_water(tables, asked), asked.others) {
+            (TwentyOneBeforeWall, 21, 14) => 21,
+            (TwentyOneAfterOthers, 21, others @ (16 | 17)) => others,
+            (_, 0, others) | (_, _, others @ 14) => others,
+            (_, refused, _) => refused,
         }
     }
 

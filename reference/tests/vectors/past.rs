@@ -141,7 +141,7 @@ fn low_water_meets_steps() {
     each_judged(&committed("stdin"), |tables, state, request| {
         let number = judge_request(tables, state, request);
         let kind = request.as_record()[0];
-        if kind == 19 && under(tables.mask & 2, tables, state, request) == 15 {
+        if kind == 19 && [15, 21].contains(&under(tables.mask & 2, tables, state, request)) {
             let others = under(tables.mask & !2, tables, state, request);
             *refused.entry(others).or_insert(0) += 1;
         }

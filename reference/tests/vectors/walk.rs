@@ -45,7 +45,18 @@ pub fn fronts<'a>(player: &'a Player, lent: &Lengths) -> (&'a [u8], &'a [u8]) {
 /// Shows every request that is judged, by judge, put or run, with the tables
 /// and what lies in the buffers before it.
 pub fn each_judged(calls: &[u8], mut look: impl FnMut(&Tables, &State, &Request)) {
-    each_command(calls, |player, command| match command {
+    each_command(calls, |player, command| {
+        each_judged_in(player, command, &mut look);
+    });
+}
+
+/// Shows the requests that one command judges, with the player before it.
+pub fn each_judged_in(
+    player: &Player,
+    command: &Command,
+    look: &mut impl FnMut(&Tables, &State, &Request),
+) {
+    match command {
         Command::Judge { lent, request } | Command::Put { lent, request } => {
             let (history, levels) = fronts(player, lent);
             // 10, 20, 11 and 12 come before any rule.
@@ -64,11 +75,11 @@ pub fn each_judged(calls: &[u8], mut look: impl FnMut(&Tables, &State, &Request)
             let (mut left, mut lowered) = (history.to_vec(), levels.to_vec());
             if run(tables, &mut left, &mut lowered, requests, &mut room).number == 0 {
                 let state = State::of(history, levels);
-                each_in_run(tables, state, requests, &mut look);
+                each_in_run(tables, state, requests, look);
             }
         }
         _ => {}
-    });
+    }
 }
 
 /// Shows the requests of a run up to its end or an unreadable one.
