@@ -1,7 +1,7 @@
 // Judging one request (document 01, "Requests and calls"), on tables that a load gives, a history of 18,944 bytes and 128 bytes of levels:
 // the checks 12 to 17, and 21 in the place of 15.
 ghost use mathlib.Core.Path.{_≡_};
-ghost use mathlib.Core.Bool.{true, _&&_};
+ghost use mathlib.Core.Bool.{true, cond, _&&_};
 ghost use Prim.Native.Nat.{_+_, _<_};
 ghost use lib.ListN.{length};
 ghost use Rattle.bits.specs.Bits.{maskBelow};
@@ -150,17 +150,20 @@ fn are_persons(t: &Words, s: usize, u: usize) -> bool
     false
 }
 
-// Roles for a start by person s, over all that the person did.
-fn start_covered(t: &Words, h: &[u8], s: usize) -> bool
+// The number of roles for a start by person s, over all that the person did.
+fn start_roles(t: &Words, h: &[u8], s: usize) -> u8
     requires { ⌜
         (given (tablesOf (now t)) ≡ true) × (length (now h) ≡ historyBytes) × (personDeclared (tablesOf (now t)) s ≡ true)
         ⌝ }
     ensures { λ r. ⌜
-        r ≡ rolesBy (tablesOf (now (t .entry))) (maskBelow 64 (used (tablesOf (now (t .entry))) (setOf (now (h .entry))) s)) 32
+        r ≡ cond (rolesBy (tablesOf (now (t .entry))) (maskBelow 64 (used (tablesOf (now (t .entry))) (setOf (now (h .entry))) s)) 32) 0 16
         ⌝ }
 {
     let did = past::past_of(t, h, s, steps::stepped_by(h, s));
-    rules::roles_permit(t, did.rights, 32)
+    if rules::roles_permit(t, did.rights, 32) {
+        return numbers::GRANTED;
+    }
+    numbers::ROLES
 }
 
 // A start of person u by person s: low-water, then roles. The history is lent on as a part, as in `judge_access`.
@@ -178,10 +181,7 @@ pub fn judge_start(t: &Words, h: &[u8], l: &[u8], s: usize, u: usize) -> u8
     if !packed::in_force(t, policy::ROLES_RULE) {
         return numbers::GRANTED;
     }
-    if start_covered(t, &h[0..], s) {
-        return numbers::GRANTED;
-    }
-    numbers::ROLES
+    start_roles(t, &h[0..], s)
 }
 
 // Whether a read of folder o by person s, or a write, is granted with no look at what the person did: no rule in force asks about it.

@@ -52,19 +52,21 @@ impl Level {
         self.0 & 0xfff
     }
 
-    // How self compares with other: at most it where the rank is at most the other's and every compartment is one of the other's.
+    // How self compares with other: at most it where the rank is at most the other's and every compartment is one of the other's. "At most"
+    // is decided first, as one test, which the machine then answers without a jump.
     pub fn compare(self, other: Level) -> Comparison
         ensures { λ r. ⌜ r ≡ compareOf 12 (self .0) (other .0) ⌝ }
     {
-        if self.rank() > other.rank() {
-            return Comparison::RankTooLow;
-        }
         let own = self.compartments();
         let others = other.compartments();
-        if own & others != own {
+        let suffices = self.rank() <= other.rank();
+        if suffices && own & others == own {
+            return Comparison::AtMost;
+        }
+        if suffices {
             return Comparison::CompartmentMissing;
         }
-        Comparison::AtMost
+        Comparison::RankTooLow
     }
 
     // The highest level that is at most both: the smaller rank, compared in its place above the compartments, and the common compartments.

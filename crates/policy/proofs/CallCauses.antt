@@ -84,7 +84,8 @@ unfolding isAtMost outcomeNumber
 level-rows false c v w rest =
     no-row (λ x. false≢true (v .1 x .0)) (no-row (λ x. false≢true (w .1 x .0)) (passed-row refl rest))
 level-rows true AtMost v w rest =
-    no-row (λ x. false≢true (sym (ap isAtMost (v .1 x .1)))) (no-row (λ x. false≢true (sym (ap isAtMost (w .1 x .1)))) (passed-row refl rest))
+    no-row (λ x. false≢true (sym (ap isAtMost (v .1 x .1))))
+    (no-row (λ x. false≢true (sym (ap isAtMost (w .1 x .1)))) (passed-row refl rest))
 level-rows true RankTooLow v w rest = last-row refl refl (v .0 (refl, refl))
 level-rows true CompartmentMissing v w rest =
     no-row (λ x. let z : _≡_ {A = ℕ} 0 1 = cc (v .1 x .1) in omega arith) (last-row refl refl (w .0 (refl, refl)))

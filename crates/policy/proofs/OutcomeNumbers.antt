@@ -1,5 +1,5 @@
--- The numbers of the outcomes of low-water's comparison: "at most" has 0, and each other outcome a number of its own, 15 or 21, which is none
--- of another rule. By the outcomes one after another.
+-- The numbers of the outcomes of low-water's comparison: "at most" has 0, and each other outcome a number of its own, 15 or 21, which is
+-- none of another rule. By the outcomes one after another.
 use native.Mathlib.Omega.{arith}
 use mathlib.Core.Path.{_≡_, refl, sym}
 use mathlib.Core.Logic.{inl, inr, _≢_}

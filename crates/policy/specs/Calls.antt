@@ -1,4 +1,5 @@
--- The calls (document 01, "Requests and calls", and document 02, Points 4 and 5): everything that each returns, and every lent byte afterwards.
+-- The calls (document 01, "Requests and calls", and document 02, Points 4 and 5): everything that each returns, and every lent byte
+-- afterwards.
 use Prim.Native.Nat.{ℕ, zero, suc, _+_}
 use mathlib.Core.Bool.{Bool, true, false, cond}
 use mathlib.Core.List.{List, [], _∷_, _++_}

@@ -1,5 +1,5 @@
--- Document 02, Point 5, as claims about what the calls return: a low-water refusal tells which clearance is wanting, a rank or a compartment.
--- They hold on every history and level buffer, and speak of the levels that standing gives, which are the stored ones.
+-- Document 02, Point 5, as claims about what the calls return: a low-water refusal tells which clearance is wanting, a rank or a
+-- compartment. They hold on every history and level buffer, and speak of the levels that standing gives, which are the stored ones.
 use Prim.Native.Nat.{ℕ}
 use mathlib.Core.Path.{_≡_}
 use mathlib.Core.Logic.{_⊎_, _↔_, _≢_}
@@ -48,8 +48,8 @@ pub record Clearances : Type 0 where
   pub granted :
       (t : Tables) (a : State) (bytes rest : List ℕ) (r : Request) → AtFront r bytes rest → LowWaterInForce t
       → judgeNumber t a bytes ≡ 0 → standingOutcome t a r ≡ AtMost
-  -- "what is granted doesn't alter": low-water refuses, by 001's form over a set or read with the levels in a buffer, exactly where the rank
-  -- is too low or a compartment is missing
+  -- "what is granted doesn't alter": low-water refuses, by 001's form over a set or read with the levels in a buffer, exactly where the
+  -- rank is too low or a compartment is missing
   pub bySet :
       (t : Tables) (H : Request → Bool) (r : Request) → (LowWater t H r → ⊥) ↔ LacksEither t (IsCurrentLevel t H) r
   pub byBuffer :

@@ -1,4 +1,5 @@
--- The four rules (document 01, "Four rules", and document 02, Points 1, 2 and 5) over the tables and the set H of the requests granted so far.
+-- The four rules (document 01, "Four rules", and document 02, Points 1, 2 and 5) over the tables and the set H of the requests granted so
+-- far.
 use Prim.Native.Nat.{ℕ, zero, suc, _+_}
 use mathlib.Core.Bool.{Bool, true, cond, not, _&&_, _||_}
 use lib.Dec.{eqb, leb}

@@ -60,17 +60,17 @@ returns-3 c =
     sym
     (start-number _ _ _ (start .pre .tables) _ _ (and-both _ _ (known .0) (known .1)) ∙ start-by _ _ _ _ _ 0 passed ∙ rw off)
 
-sub-start-covered : tie.Need-sub-start-covered
-sub-start-covered c = search needs
+sub-start-roles : tie.Need-sub-start-roles
+sub-start-roles c = search needs
 
-part-start-covered-start : tie.Need-part-start-covered-start
-part-start-covered-start c = search needs
+part-start-roles-start : tie.Need-part-start-roles-start
+part-start-roles-start c = search needs
 
-part-start-covered-end : tie.Need-part-start-covered-end
-part-start-covered-end c = search needs
+part-start-roles-end : tie.Need-part-start-roles-end
+part-start-roles-end c = search needs
 
-start-covered-requires : tie.Need-start-covered-requires
-start-covered-requires c κs =
+start-roles-requires : tie.Need-start-roles-requires
+start-roles-requires c κs =
     let start = c .before .before .before .before .before .before .before .before .before in
     let t = tablesOf (now (start .args .t)) in
     let are-persons = c .before .before .before .before .before .before .are-persons in
@@ -82,32 +82,17 @@ start-covered-requires c κs =
 returns-4 : tie.Need-returns-4
 unfolding declared
 returns-4 c =
-    let start = c .before .before .before .before .before .before .before .before .before .before .before in
+    let start = c .before .before .before .before .before .before .before .before .before .before in
     let t = tablesOf (now (start .args .t)) in
-    let are-persons = c .before .before .before .before .before .before .before .before .are-persons in
+    let are-persons = c .before .before .before .before .before .before .before .are-persons in
     let known =
     known-both (personDeclared t (start .args .s)) (personDeclared t (start .args .u))
-    (are-persons .result) (are-persons .ensures) (c .before .before .before .before .before .before .before .if1 .left) in
-    let passed = sym (c .before .before .before .before .before .if2 .left) ∙ c .before .before .before .before .before .before .start-number .ensures in
-    let on = sym (c .before .before .before .before .in-force .ensures) ∙ not-false _ (c .before .before .before .if3 .left) in
-    let covered = sym (rw whole-part at (c .before .start-covered .ensures)) ∙ c .if4 .taken in
-    sym
-    (start-number _ _ _ (start .pre .tables) _ _ (and-both _ _ (known .0) (known .1)) ∙ start-by _ _ _ _ _ 0 passed ∙ rw (on, covered))
-
-returns-5 : tie.Need-returns-5
-unfolding declared
-returns-5 c =
-    let start = c .before .before .before .before .before .before .before .before .before .before .before in
-    let t = tablesOf (now (start .args .t)) in
-    let are-persons = c .before .before .before .before .before .before .before .before .are-persons in
-    let known =
-    known-both (personDeclared t (start .args .s)) (personDeclared t (start .args .u))
-    (are-persons .result) (are-persons .ensures) (c .before .before .before .before .before .before .before .if1 .left) in
-    let passed = sym (c .before .before .before .before .before .if2 .left) ∙ c .before .before .before .before .before .before .start-number .ensures in
-    let on = sym (c .before .before .before .before .in-force .ensures) ∙ not-false _ (c .before .before .before .if3 .left) in
-    let covered = sym (rw whole-part at (c .before .start-covered .ensures)) ∙ c .if4 .left in
-    sym
-    (start-number _ _ _ (start .pre .tables) _ _ (and-both _ _ (known .0) (known .1)) ∙ start-by _ _ _ _ _ 0 passed ∙ rw (on, covered))
+    (are-persons .result) (are-persons .ensures) (c .before .before .before .before .before .before .if1 .left) in
+    let passed = sym (c .before .before .before .before .if2 .left) ∙ c .before .before .before .before .before .start-number .ensures in
+    let on = sym (c .before .before .before .in-force .ensures) ∙ not-false _ (c .before .before .if3 .left) in
+    rw whole-part at (c .start-roles .ensures)
+    ∙ sym
+    (start-number _ _ _ (start .pre .tables) _ _ (and-both _ _ (known .0) (known .1)) ∙ start-by _ _ _ _ _ 0 passed ∙ rw on)
 
 pub judge-start-spec : {M : Type 1} → statement M
 judge-start-spec =
@@ -119,9 +104,8 @@ judge-start-spec =
     returns-2
     in-force-requires
     returns-3
-    sub-start-covered
-    part-start-covered-start
-    part-start-covered-end
-    start-covered-requires
-    returns-4
-    returns-5)
+    sub-start-roles
+    part-start-roles-start
+    part-start-roles-end
+    start-roles-requires
+    returns-4)

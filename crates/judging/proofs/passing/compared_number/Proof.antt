@@ -30,15 +30,21 @@ enum-told-3 c = search needs
 
 returns : tie.Need-returns
 unfolding outcomeNumber
-returns c = told AtMost _ _ _ _ (c .before .before .compare .ensures) (c .before .before .before .entry .ensures) (c .enum-told .given .1)
+returns c =
+    let compared = c .before .before in
+    told AtMost _ _ _ _ (compared .compare .ensures) (compared .before .entry .ensures) (c .enum-told .given .1)
 
 returns-2 : tie.Need-returns-2
 unfolding outcomeNumber
-returns-2 c = told RankTooLow _ _ _ _ (c .before .before .compare .ensures) (c .before .before .before .entry .ensures) (c .enum-told2 .given .1)
+returns-2 c =
+    let compared = c .before .before in
+    told RankTooLow _ _ _ _ (compared .compare .ensures) (compared .before .entry .ensures) (c .enum-told2 .given .1)
 
 returns-3 : tie.Need-returns-3
 unfolding outcomeNumber
-returns-3 c = told CompartmentMissing _ _ _ _ (c .before .before .compare .ensures) (c .before .before .before .entry .ensures) (c .enum-told3 .given .1)
+returns-3 c =
+    let compared = c .before .before in
+    told CompartmentMissing _ _ _ _ (compared .compare .ensures) (compared .before .entry .ensures) (c .enum-told3 .given .1)
 
 pub compared-number-spec : {M : Type 1} → statement M
 compared-number-spec =

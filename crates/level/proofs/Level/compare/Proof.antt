@@ -1,10 +1,17 @@
--- `Level::compare` gives the outcome of `compareOf`: it tests the ranks, and where they are in order that the common compartments are all its
--- own.
+-- `Level::compare` gives the outcome of `compareOf`: where the rank suffices and the common compartments are all its own it is "at most",
+-- and otherwise the rank decides.
+use mathlib.Core.Logic.{⊎-elim}
 use borrow.Author.Needs.{needs}
-use borrow.Author.Tests.{le-leb, lt-leb, eq-eqb, ne-eqb}
+use Rattle.bits.proofs.Booleans.{false-elim}
 use Rattle.level.specs.Levels.{compareOf}
 use Rattle.level.proofs.Level.compare.Statement.{statement}
 use Rattle.level.proofs.Level.compare.Tie as tie
+
+compartments-requires : tie.Need-compartments-requires
+compartments-requires c κs = search needs
+
+compartments-requires-2 : tie.Need-compartments-requires-2
+compartments-requires-2 c κs = search needs
 
 rank-requires : tie.Need-rank-requires
 rank-requires c κs = search needs
@@ -15,52 +22,46 @@ rank-requires-2 c κs = search needs
 returns : tie.Need-returns
 unfolding compareOf
 returns c =
+    let ranks = c .before .before in
     rw (
-      ← c .before .before .rank .ensures,
-      ← c .before .rank2 .ensures,
-      lt-leb (c .before .before .rank .result) (c .before .rank2 .result) (c .if1 .taken),
+      ← ranks .before .rank .ensures,
+      ← ranks .rank2 .ensures,
+      ← ranks .before .before .compartments2 .ensures,
+      ← ranks .before .before .before .compartments .ensures,
+      c .before .if1 .taken,
+      c .if2 .taken,
     )
-
-compartments-requires : tie.Need-compartments-requires
-compartments-requires c κs = search needs
-
-compartments-requires-2 : tie.Need-compartments-requires-2
-compartments-requires-2 c κs = search needs
 
 returns-2 : tie.Need-returns-2
 unfolding compareOf
 returns-2 c =
-    let ranks = c .before .before .before in
+    let ranks = c .before .before in
+    ⊎-elim
+    (λ both.
     rw (
-      ← ranks .before .before .rank .ensures,
-      ← ranks .before .rank2 .ensures,
-      le-leb (ranks .before .before .rank .result) (ranks .before .rank2 .result) (ranks .if1 .left),
-      ← c .before .before .compartments .ensures,
-      ← c .before .compartments2 .ensures,
-      ne-eqb _ _ (c .if2 .taken),
-    )
+      ← ranks .before .rank .ensures,
+      ← ranks .rank2 .ensures,
+      ← ranks .before .before .compartments2 .ensures,
+      ← ranks .before .before .before .compartments .ensures,
+      c .if3 .taken,
+      both .1 .left,
+    ))
+    (λ low. absurd (false-elim _ (low .left) (c .if3 .taken))) (c .before .if1 .came)
 
 returns-3 : tie.Need-returns-3
 unfolding compareOf
 returns-3 c =
-    let ranks = c .before .before .before in
-    rw (
-      ← ranks .before .before .rank .ensures,
-      ← ranks .before .rank2 .ensures,
-      le-leb (ranks .before .before .rank .result) (ranks .before .rank2 .result) (ranks .if1 .left),
-      ← c .before .before .compartments .ensures,
-      ← c .before .compartments2 .ensures,
-      eq-eqb _ _ (c .if2 .left),
-    )
+    let ranks = c .before .before in
+    rw (← ranks .before .rank .ensures, ← ranks .rank2 .ensures, c .if3 .left)
 
 pub compare-spec : {M : Type 1} → statement M
 compare-spec =
     tie.close
     (tie.spec
+    compartments-requires
+    compartments-requires-2
     rank-requires
     rank-requires-2
     returns
-    compartments-requires
-    compartments-requires-2
     returns-2
     returns-3)

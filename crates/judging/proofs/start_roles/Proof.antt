@@ -1,10 +1,9 @@
--- `start_covered` asks for a role that has right 32 and every right that the person used.
-use mathlib.Core.Path.{_∙_}
+-- `start_roles` asks for a role that has right 32 and every right that the person used, and is 16 where there is none.
 use borrow.Author.Needs.{needs}
 use Rattle.policy.proofs.Requests.{person-below}
 use Rattle.past.specs.Past.{pastOf}
-use Rattle.judging.proofs.start_covered.Statement.{statement}
-use Rattle.judging.proofs.start_covered.Tie as tie
+use Rattle.judging.proofs.start_roles.Statement.{statement}
+use Rattle.judging.proofs.start_roles.Tie as tie
 
 stepped-by-requires : tie.Need-stepped-by-requires
 stepped-by-requires c κs =
@@ -21,13 +20,18 @@ roles-permit-requires c κs = search needs
 
 returns : tie.Need-returns
 unfolding pastOf
-returns c = c .roles-permit .ensures ∙ rw (c .before .past-of .ensures)
+returns c = let permitted = rw (c .before .before .past-of .ensures) at (c .before .roles-permit .ensures) in rw (← permitted, c .if1 .taken)
 
-pub start-covered-spec : {M : Type 1} → statement M
-start-covered-spec =
+returns-2 : tie.Need-returns-2
+unfolding pastOf
+returns-2 c = let permitted = rw (c .before .before .past-of .ensures) at (c .before .roles-permit .ensures) in rw (← permitted, c .if1 .left)
+
+pub start-roles-spec : {M : Type 1} → statement M
+start-roles-spec =
     tie.close
     (tie.spec
     stepped-by-requires
     past-of-requires
     roles-permit-requires
-    returns)
+    returns
+    returns-2)
