@@ -1,5 +1,6 @@
 -- `start_number` is the number of the stored levels of both persons compared, and 0 where low-water is not in force.
 use mathlib.Core.Path.{sym, _∙_}
+use native.Mathlib.Omega.{arith}
 use borrow.Author.Tests.{not-true, not-false}
 use borrow.Author.Needs.{needs}
 use Rattle.policy.proofs.Requests.{person-below}
@@ -17,12 +18,12 @@ returns c = let off = sym (c .before .in-force .ensures) ∙ not-true _ (c .if1 
 entry-requires : tie.Need-entry-requires
 entry-requires c κs =
     let start = c .before .before .before in
-    (start .pre .0, person-below _ _ (start .pre .2))
+    (start .pre .0, omega (arith, person-below _ _ (start .pre .1), person-below _ _ (start .pre .2)))
 
 compared-number-requires : tie.Need-compared-number-requires
 compared-number-requires c κs =
     let start = c .before .before .before .before in
-    (start .pre .0, person-below _ _ (start .pre .1))
+    (start .pre .0, omega (arith, person-below _ _ (start .pre .1), person-below _ _ (start .pre .2)))
 
 returns-2 : tie.Need-returns-2
 unfolding levelNumber
