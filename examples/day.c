@@ -1,6 +1,7 @@
 /* The marked day of document 01 (P1): loads the printed book, runs its ten requests from blank and prints the answers. Then a lobby with
  * a public folder, a book that is refused with 19, a post room whose steps lower, the level that is then stored for its person, a call
- * that is answered 20, and a counter that asks which clearance is wanting. Exits with 1 if something else is answered than stands here. */
+ * that is answered 20, and a front counter that is told which clearance to request. Exits with 1 if something else is answered than
+ * stands here. */
 #include "kweldabe.h"
 
 #include <stdio.h>
@@ -47,13 +48,13 @@ static const uint8_t lowered[] = {0, 15, 21, 0};
 /* Low-water alone: person 0 writes in three folders, and each person starts the other. A compartment is missing for folder 0 and for the
  * start of person 1. The rank is too low for folder 1, where a compartment is missing besides, for folder 2 and for the start of
  * person 0. */
-static const uint8_t counter[] = {
+static const uint8_t front_counter[] = {
     1, 2, 2, 0, 0, 3, 0, 1, 32, 3, 1, 3, 16, 4, 0, 0, 0, 3, 16, 4, 1, 0, 0, 3, 48, 4, 2, 0, 0, 1, 48, 0,
 };
 
-static const uint8_t wishes[] = {17, 0, 0, 17, 0, 1, 17, 0, 2, 18, 0, 1, 18, 1, 0};
+static const uint8_t attempts[] = {17, 0, 0, 17, 0, 1, 17, 0, 2, 18, 0, 1, 18, 1, 0};
 
-static const uint8_t wanting[] = {21, 15, 15, 21, 15};
+static const uint8_t told[] = {21, 15, 15, 21, 15};
 
 static uint8_t history[KWELDABE_HISTORY_BYTES];
 static uint8_t levels[KWELDABE_LEVELS_BYTES];
@@ -105,7 +106,7 @@ static int levels_are_held(void) {
 
 /* 15 or 21, for writes and starts alike. */
 static int clearance_is_told(void) {
-    return answered("counter", counter, sizeof counter, wishes, sizeof wishes, wanting, sizeof wanting);
+    return answered("front counter", front_counter, sizeof front_counter, attempts, sizeof attempts, told, sizeof told);
 }
 
 int main(void) {

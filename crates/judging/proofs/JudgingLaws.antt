@@ -38,7 +38,7 @@ use Rattle.policy.specs.Rules.{
   wall,
   wallAccess,
   used,
-  modifying,
+  modifyOutcome,
   levelOutcome,
   lowWater,
   roles,
@@ -57,7 +57,7 @@ use Rattle.request.specs.declared.Parsed.the-variants.{Nothing, Access, Start, 
 use Rattle.request.specs.Parsed.{accessBy, asRequest}
 use Rattle.judging.specs.Judging.{
   numberOf,
-  levelNumber,
+  lowWaterNumber,
   asksPast,
   asksLevel,
   isUnasked,
@@ -86,8 +86,8 @@ known-both a b r e n = let both = sym e ∙ not-false r n in (and-left a b both,
 
 -- where low-water does not ask, it has no number; where it asks, its number is that of the folder's level compared
 module _ (t : Tables) (o level : ℕ) where
-  pub not-asked : (modifies : Bool) → asksLevel t modifies ≡ false → levelNumber t (accessOutcome t o level modifies) ≡ 0
-  unfolding asksLevel accessOutcome levelNumber outcomeNumber
+  pub not-asked : (modifies : Bool) → asksLevel t modifies ≡ false → lowWaterNumber t (accessOutcome t o level modifies) ≡ 0
+  unfolding asksLevel accessOutcome lowWaterNumber outcomeNumber
   not-asked true e = rw e
   not-asked false e = go (inForce t lowWaterRule)
     where
@@ -96,15 +96,15 @@ module _ (t : Tables) (o level : ℕ) where
       go false = refl
 
   pub asked : (modifies : Bool) {e : Folder} → asksLevel t modifies ≡ true → e ≡ folderAt t o
-      → levelNumber t (accessOutcome t o level modifies) ≡ outcomeNumber (compareOf 12 (e .level .0) level)
-  unfolding asksLevel accessOutcome levelNumber
+      → lowWaterNumber t (accessOutcome t o level modifies) ≡ outcomeNumber (compareOf 12 (e .level .0) level)
+  unfolding asksLevel accessOutcome lowWaterNumber
   asked true on entry = rw (on, entry)
   asked false on entry = absurd (false≢true on)
 
 -- after low-water's check come roles where its number is 0
 pub level-then : (t : Tables) (c : Comparison) (m : ℕ)
-    → cond (inForce t lowWaterRule implies isAtMost c) m (outcomeNumber c) ≡ cond (eqb (levelNumber t c) 0) m (levelNumber t c)
-unfolding levelNumber isAtMost outcomeNumber
+    → cond (inForce t lowWaterRule implies isAtMost c) m (outcomeNumber c) ≡ cond (eqb (lowWaterNumber t c) 0) m (lowWaterNumber t c)
+unfolding lowWaterNumber isAtMost outcomeNumber
 level-then t c m = go (inForce t lowWaterRule) c
   where
     go : (on : Bool) (c : Comparison)
@@ -118,7 +118,7 @@ level-then t c m = go (inForce t lowWaterRule) c
 pub three-numbers : (t : Tables) (w r : Bool) (c : Comparison)
     → numberOf t w c r
     ≡ cond (inForce t wallRule implies w)
-    (cond (eqb (levelNumber t c) 0) (cond (inForce t rolesRule implies r) 0 16) (levelNumber t c)) 14
+    (cond (eqb (lowWaterNumber t c) 0) (cond (inForce t rolesRule implies r) 0 16) (lowWaterNumber t c)) 14
 unfolding numberOf ladder
 three-numbers t w r c = ap (λ (n : ℕ). cond (inForce t wallRule implies w) n 14) (level-then t c _)
 
@@ -132,7 +132,7 @@ own-number n = ⊎-elim (λ e. rw e (sym (eqb-true n 0 e))) (λ e. rw e) (decide
 
 module _ (t : Tables) (H : Request → Bool) (levels : ℕ → ℕ) (s o new : ℕ) (off : asksPast t ≡ false) where
   pub level-decides : (modifies : Bool)
-      → accessNumber t H levels s o new modifies ≡ levelNumber t (accessOutcome t o (levels s) modifies)
+      → accessNumber t H levels s o new modifies ≡ lowWaterNumber t (accessOutcome t o (levels s) modifies)
   unfolding asksPast accessNumber
   level-decides modifies =
       let (a, b) = neither (inForce t wallRule) (inForce t rolesRule) off in
@@ -206,7 +206,7 @@ module _ (t : Tables) (H : Request → Bool) (levels : ℕ → ℕ) where
       ∙ sym e
 
   -- a start, by the number of low-water and by roles over what the starter did
-  pub start-by : (s u n : ℕ) → n ≡ levelNumber t (compareOf 12 (levels u) (levels s))
+  pub start-by : (s u n : ℕ) → n ≡ lowWaterNumber t (compareOf 12 (levels u) (levels s))
       → startNumber t H levels s u
       ≡ cond (eqb n 0) (cond (inForce t rolesRule implies rolesBy t (maskBelow 64 (used t H s)) 32) 0 16) n
   unfolding startNumber
@@ -215,7 +215,7 @@ module _ (t : Tables) (H : Request → Bool) (levels : ℕ → ℕ) where
   module _ (ok : given t ≡ true) where
     -- an access, by the answers of wall, low-water and roles over what the person did
     pub access-by : (s o new : ℕ) (modifies : Bool) {past : Past} {w r : Bool} {n : ℕ} → folderDeclared t o ≡ true → past ≡ pastOf t H s
-        → w ≡ (inForce t wallRule implies wallBy t (past .counted) o) → n ≡ levelNumber t (accessOutcome t o (levels s) modifies)
+        → w ≡ (inForce t wallRule implies wallBy t (past .counted) o) → n ≡ lowWaterNumber t (accessOutcome t o (levels s) modifies)
         → r ≡ (inForce t rolesRule implies rolesBy t (past .rights) new)
         → cond w (cond (eqb n 0) (cond r 0 16) n) 14 ≡ accessNumber t H levels s o new modifies
     unfolding accessNumber pastOf
@@ -223,7 +223,7 @@ module _ (t : Tables) (H : Request → Bool) (levels : ℕ → ℕ) where
 
     pub access-number : (writes : Bool) (s o : ℕ) → personDeclared t s ≡ true → folderDeclared t o ≡ true
         → judged t H levels (accessBy writes s o) ≡ accessNumber t H levels s o (accessRight writes (folderAt t o .kind)) writes
-    unfolding accessBy accessRight accessNumber accessOutcome wall levelOutcome modifying right pipeline subject declared
+    unfolding accessBy accessRight accessNumber accessOutcome wall levelOutcome modifyOutcome right pipeline subject declared
     access-number true s o p f =
         let d = and-both _ _ p f in
         by-three (write s o) d refl
@@ -242,7 +242,7 @@ module _ (t : Tables) (H : Request → Bool) (levels : ℕ → ℕ) where
     pub step-number : (s p o : ℕ) → declared t (step s p o) ≡ true
         → accessNumber t H levels s o (48 + p) true
         ≡ numberOf t (wall t H (step s p o)) (levelOutcome t levels (step s p o)) (roles t H (step s p o))
-    unfolding accessNumber accessOutcome wall levelOutcome modifying right subject
+    unfolding accessNumber accessOutcome wall levelOutcome modifyOutcome right subject
     step-number s p o d =
         ap (numberOf t (wallAccess t H s o) (compareOf 12 (folderAt t o .level .0) (levels s)))
         (roles-by t H s ok (step s p o) d refl)

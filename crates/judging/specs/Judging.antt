@@ -37,8 +37,8 @@ numberOf t wall outcome roles =
     ∷ [])
 
 -- the number of low-water alone, by the outcome of its comparison; none where it is not in force
-unfoldable pub levelNumber : Tables → Comparison → ℕ
-levelNumber t outcome = cond (inForce t lowWaterRule) (outcomeNumber outcome) 0
+unfoldable pub lowWaterNumber : Tables → Comparison → ℕ
+lowWaterNumber t outcome = cond (inForce t lowWaterRule) (outcomeNumber outcome) 0
 
 -- the wall or roles are in force
 unfoldable pub asksPast : Tables → Bool

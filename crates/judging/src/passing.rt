@@ -11,7 +11,7 @@ ghost use Rattle.policy.specs.Levels.{levelsBytes, levelAt};
 ghost use Rattle.policy.specs.Calls.{outcomeNumber};
 ghost use Rattle.packed.specs.Packed.{tablesOf};
 ghost use Rattle.rules.specs.Sets.{wallBy, rolesBy};
-ghost use Rattle.judging.specs.Judging.{asksPast, asksLevel, levelNumber, accessOutcome};
+ghost use Rattle.judging.specs.Judging.{asksPast, asksLevel, lowWaterNumber, accessOutcome};
 use level::Comparison;
 use level::Level;
 use packed::Words;
@@ -69,7 +69,7 @@ pub fn level_number(t: &Words, l: &[u8], s: usize, o: usize, modifies: bool) -> 
         (length (now l) ≡ levelsBytes) × (personDeclared (tablesOf (now t)) s ≡ true) × (folderDeclared (tablesOf (now t)) o ≡ true)
         ⌝ }
     ensures { λ r. ⌜
-        r ≡ levelNumber (tablesOf (now (t .entry))) (accessOutcome (tablesOf (now (t .entry))) o (levelAt (now (l .entry)) s) modifies)
+        r ≡ lowWaterNumber (tablesOf (now (t .entry))) (accessOutcome (tablesOf (now (t .entry))) o (levelAt (now (l .entry)) s) modifies)
         ⌝ }
 {
     if !asks_level(t, modifies) {
@@ -98,7 +98,7 @@ pub fn start_number(t: &Words, l: &[u8], s: usize, u: usize) -> u8
         (length (now l) ≡ levelsBytes) × (personDeclared (tablesOf (now t)) s ≡ true) × (personDeclared (tablesOf (now t)) u ≡ true)
         ⌝ }
     ensures { λ r. ⌜
-        r ≡ levelNumber (tablesOf (now (t .entry))) (compareOf 12 (levelAt (now (l .entry)) u) (levelAt (now (l .entry)) s))
+        r ≡ lowWaterNumber (tablesOf (now (t .entry))) (compareOf 12 (levelAt (now (l .entry)) u) (levelAt (now (l .entry)) s))
         ⌝ }
 {
     if !packed::in_force(t, policy::LOW_WATER_RULE) {

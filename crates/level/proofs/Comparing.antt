@@ -2,8 +2,9 @@
 -- "at most" where both tests hold, tells the rank where the first fails, and a compartment where the second alone fails; and a set of
 -- compartments that is not part of another has one that the other has not, found by a search below w.
 use Prim.Native.Nat.{ℕ, _^_, _≤_, _<_}
+use native.Mathlib.Omega.{arith}
 use mathlib.Core.Path.{_≡_, refl, sym, ap, _∙_}
-use mathlib.Core.Logic.{_↔_, ⊎-elim}
+use mathlib.Core.Logic.{_↔_, _≢_, ⊎-elim}
 use mathlib.Core.Bool.{Bool, true, false, cond, not, _&&_, false≢true}
 use lib.Bits.{bitAnd}
 use lib.Dec.{leb, eqb}
@@ -18,23 +19,34 @@ use Rattle.level.specs.declared.Comparison.the-variants.{AtMost, RankToo
 use Rattle.level.specs.Levels.{rankOf, compartmentsOf, compareOf, isAtMost, atMost}
 
 -- the outcome of the test of the ranks and that of the compartments
-abbrev pub outcome : Bool → Bool → Comparison
+abbrev outcome : Bool → Bool → Comparison
 outcome ranks sets = cond ranks (cond sets AtMost CompartmentMissing) RankTooLow
 
-pub both-tests : (ranks sets : Bool) → isAtMost (outcome ranks sets) ≡ ranks && sets
+both-tests : (ranks sets : Bool) → isAtMost (outcome ranks sets) ≡ ranks && sets
 unfolding isAtMost
 both-tests true true = refl
 both-tests true false = refl
 both-tests false sets = refl
 
+-- ---- the outcomes are three
+
+pub rank-other : RankTooLow ≢ AtMost
+rank-other e = let z : _≡_ {A = ℕ} 0 1 = cc e in omega arith
+
+pub compartment-other : CompartmentMissing ≢ AtMost
+compartment-other e = let z : _≡_ {A = ℕ} 0 1 = cc e in omega arith
+
+pub compartment-no-rank : CompartmentMissing ≢ RankTooLow
+compartment-no-rank e = let z : _≡_ {A = ℕ} 0 1 = cc e in omega arith
+
 -- ---- from the outcome to the tests
 
-pub outcome-rank : (ranks sets : Bool) → outcome ranks sets ≡ RankTooLow → ranks ≡ false
+outcome-rank : (ranks sets : Bool) → outcome ranks sets ≡ RankTooLow → ranks ≡ false
 outcome-rank true true e = cc e
 outcome-rank true false e = cc e
 outcome-rank false sets e = refl
 
-pub outcome-compartment : (ranks sets : Bool) → outcome ranks sets ≡ CompartmentMissing → (ranks ≡ true) × (sets ≡ false)
+outcome-compartment : (ranks sets : Bool) → outcome ranks sets ≡ CompartmentMissing → (ranks ≡ true) × (sets ≡ false)
 outcome-compartment true true e = (refl, cc e)
 outcome-compartment true false e = (refl, refl)
 outcome-compartment false sets e = (cc e, cc e)

@@ -53,7 +53,7 @@ impl Level {
     }
 
     // How self compares with other: at most it where the rank is at most the other's and every compartment is one of the other's. "At most"
-    // is decided first, as one test, which the machine then answers without a jump.
+    // is decided first, as one test (docs/PERFORMANCE.md has what that brings).
     pub fn compare(self, other: Level) -> Comparison
         ensures { λ r. ⌜ r ≡ compareOf 12 (self .0) (other .0) ⌝ }
     {

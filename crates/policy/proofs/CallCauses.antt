@@ -1,8 +1,7 @@
 -- Each call's number is that of its first cause: row by row, a check refuses exactly where its cause holds. Lengths are compared as
 -- numbers, tables that pass the test are those that a load gives, and each rule is its published form.
 use Prim.Native.Nat.{ℕ, _<_}
-use native.Mathlib.Omega.{arith}
-use mathlib.Core.Path.{_≡_, refl, sym, ap}
+use mathlib.Core.Path.{_≡_, refl, sym}
 use mathlib.Core.Logic.{_↔_, _≢_, ⊎-elim}
 use mathlib.Core.Bool.{Bool, true, false, false≢true}
 use mathlib.Core.List.{List, _∷_, _++_}
@@ -15,6 +14,7 @@ use Rattle.bits.proofs.Booleans.{decide, implies-elim, implies-intro, false-eli
 use Rattle.level.specs.declared.Comparison.{Comparison}
 use Rattle.level.specs.declared.Comparison.the-variants.{AtMost, RankTooLow, CompartmentMissing}
 use Rattle.level.specs.Levels.{isAtMost}
+use Rattle.level.proofs.Comparing.{rank-other, compartment-other, compartment-no-rank}
 use Rattle.policy.specs.declared.Tables.{Tables}
 use Rattle.policy.specs.Tables.{personDeclared, inForce}
 use Rattle.policy.specs.Rulebook.{given}
@@ -84,11 +84,10 @@ unfolding isAtMost outcomeNumber
 level-rows false c v w rest =
     no-row (λ x. false≢true (v .1 x .0)) (no-row (λ x. false≢true (w .1 x .0)) (passed-row refl rest))
 level-rows true AtMost v w rest =
-    no-row (λ x. false≢true (sym (ap isAtMost (v .1 x .1))))
-    (no-row (λ x. false≢true (sym (ap isAtMost (w .1 x .1)))) (passed-row refl rest))
+    no-row (λ x. rank-other (sym (v .1 x .1))) (no-row (λ x. compartment-other (sym (w .1 x .1))) (passed-row refl rest))
 level-rows true RankTooLow v w rest = last-row refl refl (v .0 (refl, refl))
 level-rows true CompartmentMissing v w rest =
-    no-row (λ x. let z : _≡_ {A = ℕ} 0 1 = cc (v .1 x .1) in omega arith) (last-row refl refl (w .0 (refl, refl)))
+    no-row (λ x. compartment-no-rank (v .1 x .1)) (last-row refl refl (w .0 (refl, refl)))
 
 -- the checks 10, 20 and 11, before others
 module _ (t : Tables) (typed : OfType t) (a : State) where

@@ -1,7 +1,6 @@
 -- The outcome of low-water's comparison is a rank too low, or a compartment missing, exactly where the two levels that a request needs are
 -- so: the levels of persons are those that a reading of them says, and the outcome of comparing two levels is as the order's laws say.
 use Prim.Native.Nat.{ℕ}
-use native.Mathlib.Omega.{arith}
 use mathlib.Core.Path.{_≡_, refl, sym, ap, ap₂, _∙_}
 use mathlib.Core.Logic.{_⊎_, inl, inr, _↔_, _≢_}
 use mathlib.Core.Bool.{Bool, true}
@@ -10,13 +9,13 @@ use Rattle.bits.proofs.Booleans.{and-left, and-right}
 use Rattle.level.specs.declared.Comparison.{Comparison}
 use Rattle.level.specs.declared.Comparison.the-variants.{AtMost, RankTooLow, CompartmentMissing}
 use Rattle.level.specs.Levels.{compareOf}
-use Rattle.level.proofs.Comparing.{compared-rank, compared-compartment}
+use Rattle.level.proofs.Comparing.{rank-other, compartment-other, compared-rank, compared-compartment}
 use Rattle.level.proofs.LevelLaws.{compartments-lt}
 use Rattle.policy.specs.declared.Tables.{Tables}
 use Rattle.policy.specs.Tables.{folderAt, personDeclared}
 use Rattle.policy.specs.Request.{Request, read, write, start, step}
 use Rattle.policy.specs.Levels.{levelAt}
-use Rattle.policy.specs.Rules.{declared, modifying, levelOutcome}
+use Rattle.policy.specs.Rules.{declared, modifyOutcome, levelOutcome}
 use Rattle.policy.specs.Published.{IsCurrentLevel, LacksRank, LacksCompartment, Compared, IsHeldLevel}
 use Rattle.policy.proofs.Requests.{declared-person}
 use Rattle.policy.proofs.Published.{one-level}
@@ -70,7 +69,7 @@ module _ (t : Tables) (levels : ℕ → ℕ) (IsLevel : ℕ → ℕ → Type 0) 
       )
 
       outcome-compared : (levelOutcome t levels r ≡ c) ↔ Compared t IsLevel P r
-      unfolding levelOutcome modifying
+      unfolding levelOutcome modifyOutcome
       outcome-compared = go r reads
         where
           go : (q : Request) → ((s : ℕ) → Party q s → Reads levels IsLevel s) → (levelOutcome t levels q ≡ c) ↔ Compared t IsLevel P q
@@ -81,9 +80,9 @@ module _ (t : Tables) (levels : ℕ → ℕ) (IsLevel : ℕ → ℕ → Type 0) 
 
     pub rank-compared : (levelOutcome t levels r ≡ RankTooLow) ↔ Compared t IsLevel LacksRank r
     rank-compared =
-        outcome-compared RankTooLow (λ e. let z : _≡_ {A = ℕ} 0 1 = cc e in omega arith) LacksRank (compared-rank 12)
+        outcome-compared RankTooLow rank-other LacksRank (compared-rank 12)
 
     pub compartment-compared : (levelOutcome t levels r ≡ CompartmentMissing) ↔ Compared t IsLevel LacksCompartment r
     compartment-compared =
-        outcome-compared CompartmentMissing (λ e. let z : _≡_ {A = ℕ} 0 1 = cc e in omega arith) LacksCompartment
+        outcome-compared CompartmentMissing compartment-other LacksCompartment
         (λ a b. compared-compartment 12 a b (compartments-lt 12 a))

@@ -14,7 +14,7 @@ use Rattle.policy.specs.Checks.{_else_, ladder}
 use Rattle.policy.specs.Tables.{folderAt, personDeclared}
 use Rattle.policy.specs.Request.{Request, read, write, start, step, requestOf, setOf}
 use Rattle.policy.specs.Levels.{levelAt, metWith, lowered}
-use Rattle.policy.specs.Rules.{declared, currentLevel, modifying, levelOutcome, lowWater}
+use Rattle.policy.specs.Rules.{declared, currentLevel, modifyOutcome, levelOutcome, lowWater}
 use Rattle.policy.specs.Calls.{State, requestChecks, judgeWith}
 use Rattle.policy.specs.Published.{Observes, IsCurrentLevel, LowWater, LowWaterHeld}
 use Rattle.policy.specs.Held.{HoldsCurrent}
@@ -28,7 +28,7 @@ use Rattle.policy.proofs.LevelBytes.{Holding, holding-level, holding-ex
 -- ---- the rule
 
 pub low-water-held : (t : Tables) (l : List ℕ) (r : Request) → (lowWater t (levelAt l) r ≡ true) ↔ LowWaterHeld t l r
-unfolding lowWater levelOutcome modifying isAtMost atMost levelAt
+unfolding lowWater levelOutcome modifyOutcome isAtMost atMost levelAt
 low-water-held t l (read s o) = (λ e. tt, λ w. refl)
 low-water-held t l (write s o) = (λ e. e, λ w. w)
 low-water-held t l (start s u) = (λ e. e, λ w. w)
@@ -37,7 +37,7 @@ low-water-held t l (step s p o) = (λ e. e, λ w. w)
 -- levels that are the same for every declared person are judged alike: an undeclared person's request gets 13
 module _ (t : Tables) (levels levels′ : ℕ → ℕ) (same : (s : ℕ) → personDeclared t s ≡ true → levels s ≡ levels′ s) where
   outcome-same : (r : Request) → declared t r ≡ true → levelOutcome t levels r ≡ levelOutcome t levels′ r
-  unfolding levelOutcome modifying declared
+  unfolding levelOutcome modifyOutcome declared
   outcome-same (read s o) d = refl
   outcome-same (write s o) d = ap (compareOf 12 (folderAt t o .level .0)) (same s (and-left (personDeclared t s) _ d))
   outcome-same (start s u) d =

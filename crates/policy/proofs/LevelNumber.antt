@@ -77,7 +77,7 @@ early n m is e a b = ⊎-elim (λ f. a (e ∙ f)) (λ f. b (e ∙ f)) is
 
 -- the checks before low-water permit, and low-water does not, and refuses with this number
 refused-level : (a c b d w l : Bool) (k m n : ℕ) → OfLowWater n → m ≢ n → levelNumber a c b d w l k m ≡ n
-    → Before a c b d × (l ≡ false) × (k ≡ n)
+    → Before a c b d × (w ≡ true) × (l ≡ false) × (k ≡ n)
 unfolding levelNumber
 refused-level false c b d w l k m n is other e = absurd (early n 10 is e (omega arith) (omega arith))
 refused-level true false b d w l k m n is other e = absurd (early n 20 is e (omega arith) (omega arith))
@@ -85,7 +85,7 @@ refused-level true true false d w l k m n is other e = absurd (early n 11 is e (
 refused-level true true true false w l k m n is other e = absurd (early n 13 is e (omega arith) (omega arith))
 refused-level true true true true false l k m n is other e = absurd (early n 14 is e (omega arith) (omega arith))
 refused-level true true true true true false k m n is other e =
-    (record { size = refl; held = refl; known = refl; parties = refl }, refl, e)
+    (record { size = refl; held = refl; known = refl; parties = refl }, refl, refl, e)
 refused-level true true true true true true k m n is other e = absurd (other e)
 
 -- every check permits, where a refusal by low-water has a number other than 0
@@ -110,8 +110,20 @@ module _ (t : Tables) (a : State) (bytes : List ℕ) (r : Request) (is : request
       (refusal-number (inForce t lowWaterRule) (levelOutcome t (levelAt (a .levels)) r)) (sym (judged-level t a bytes r is) ∙ e)
 
   pub judged-refused : (n : ℕ) → OfLowWater n → judgeNumber t a bytes ≡ n
-      → Before (sizeRight a) (heldRight a) (given t) (declared t r) × (outcomeNumber (levelOutcome t (levelAt (a .levels)) r) ≡ n)
+      → Before (sizeRight a) (heldRight a) (given t) (declared t r) × (walled t (setOf (a .history)) r ≡ true)
+      × (levelled t (levelAt (a .levels)) r ≡ false) × (outcomeNumber (levelOutcome t (levelAt (a .levels)) r) ≡ n)
   judged-refused n of e =
-      let (before, l, k) = refused-level _ _ _ _ _ _ _ _ n of (level-other t (setOf (a .history)) r n of)
-      (sym (judged-level t a bytes r is) ∙ e) in
-      (before, k)
+      refused-level _ _ _ _ _ _ _ _ n of (level-other t (setOf (a .history)) r n of) (sym (judged-level t a bytes r is) ∙ e)
+
+  -- and back: where the checks before low-water permit and low-water does not, the number is that of the outcome
+  pub refused-judged : Before (sizeRight a) (heldRight a) (given t) (declared t r) → walled t (setOf (a .history)) r ≡ true
+      → levelled t (levelAt (a .levels)) r ≡ false → judgeNumber t a bytes ≡ outcomeNumber (levelOutcome t (levelAt (a .levels)) r)
+  unfolding levelNumber
+  refused-judged before w l =
+      judged-level t a bytes r is ∙ rw (before .size, before .held, before .known, before .parties, w, l)
+
+  -- a request that the wall refuses gets 14
+  pub walled-judged : Before (sizeRight a) (heldRight a) (given t) (declared t r) → walled t (setOf (a .history)) r ≡ false
+      → judgeNumber t a bytes ≡ 14
+  unfolding levelNumber
+  walled-judged before w = judged-level t a bytes r is ∙ rw (before .size, before .held, before .known, before .parties, w)

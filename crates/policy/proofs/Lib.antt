@@ -46,6 +46,7 @@ pub mod LevelBytes
 pub mod Held
 pub mod LevelNumber
 pub mod Compared
+pub mod Wanting
 pub mod Clearances
 pub mod StepsAlter
 pub mod Blanks

@@ -61,7 +61,7 @@ use Rattle.policy.specs.Rules.{
   leadsTo,
   pipelineStep,
   pipeline,
-  modifying,
+  modifyOutcome,
   levelOutcome,
   lowWater,
 }
@@ -88,7 +88,7 @@ unfolding
     declaredBefore firmStands folderStands entersCreate recordChecks madePublic declare reaches hasCircle isLoose hasLoose endChecks
     refusedBook ended loadFrom loadBook subject two three requestOf recordLength same member declared right did stepped accessed firmOfSome
     counts counted otherClass wallAccess wall observed loweredBy currentLevel someRequest used roleCovers roles done leadsTo pipelineStep
-    pipeline modifying levelOutcome lowWater restOf outcomeNumber requestChecks judgeWith judgeOver addedIf judgeList afterRecord
+    pipeline modifyOutcome levelOutcome lowWater restOf outcomeNumber requestChecks judgeWith judgeOver addedIf judgeList afterRecord
     callsFrom callsOf grantedIn refusedIn levelAt withLevelAt metWith lowered wallAnswer lowWaterAnswer heldAnswer withTotals
 marked-cases =
     record {

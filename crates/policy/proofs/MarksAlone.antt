@@ -60,7 +60,7 @@ use Rattle.policy.specs.Rules.{
   leadsTo,
   pipelineStep,
   pipeline,
-  modifying,
+  modifyOutcome,
   levelOutcome,
   lowWater,
 }
@@ -136,8 +136,8 @@ module _ (t t′ : Tables) (same : SameButMarks t t′) where
 
   -- ---- low-water, with the same levels
 
-  modify-same : (levels : ℕ → ℕ) (s o : ℕ) → modifying t levels s o ≡ modifying t′ levels s o
-  unfolding modifying
+  modify-same : (levels : ℕ → ℕ) (s o : ℕ) → modifyOutcome t levels s o ≡ modifyOutcome t′ levels s o
+  unfolding modifyOutcome
   modify-same levels s o = ap (λ (x : ℕ). compareOf 12 x (levels s)) (same .folders o .level)
 
   outcome-same : (levels : ℕ → ℕ) (r : Request) → levelOutcome t levels r ≡ levelOutcome t′ levels r

@@ -1,5 +1,6 @@
 -- The numbers of the outcomes of low-water's comparison: "at most" has 0, and each other outcome a number of its own, 15 or 21, which is
 -- none of another rule. By the outcomes one after another.
+use Prim.Native.Nat.{ℕ}
 use native.Mathlib.Omega.{arith}
 use mathlib.Core.Path.{_≡_, refl, sym}
 use mathlib.Core.Logic.{inl, inr, _≢_}
@@ -18,7 +19,12 @@ of-low-water AtMost n = absurd (n refl)
 of-low-water RankTooLow n = inl refl
 of-low-water CompartmentMissing n = inr refl
 
--- so it is not the wall's
+-- such a number is not 0
+pub zero-other : (n : ℕ) → OfLowWater n → 0 ≢ n
+zero-other n (inl e) z = omega arith
+zero-other n (inr e) z = omega arith
+
+-- no outcome has the wall's number
 pub outcome-other : (c : Comparison) → outcomeNumber c ≢ 14
 unfolding outcomeNumber
 outcome-other AtMost = omega arith

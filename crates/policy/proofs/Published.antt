@@ -42,7 +42,7 @@ use Rattle.policy.specs.Rules.{
   observed,
   loweredBy,
   currentLevel,
-  modifying,
+  modifyOutcome,
   levelOutcome,
   lowWater,
   roleCovers,
@@ -181,7 +181,7 @@ module _ (t : Tables) (H : Request → Bool) where
   )
 
   pub low-water-published : (r : Request) → (lowWater t (currentLevel t H) r ≡ true) ↔ LowWater t H r
-  unfolding lowWater levelOutcome modifying isAtMost atMost
+  unfolding lowWater levelOutcome modifyOutcome isAtMost atMost
   low-water-published (read s o) = (λ e. tt, λ w. refl)
   low-water-published (write s o) = level-is-meet s (folderAt t o .level .0)
   low-water-published (start s u) = start-levels s u

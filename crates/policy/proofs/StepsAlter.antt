@@ -2,8 +2,8 @@
 -- pass the same checks; and a granted put adds its request to the set, so the levels of standing are met with its folder or stay.
 use Prim.Native.Nat.{ℕ, _≤_}
 use mathlib.Core.Path.{_≡_, refl, sym, ap, ap₂, _∙_}
-use mathlib.Core.Logic.{_⊎_, inl, inr, ⊎-elim, _↔_, _≢_}
-use mathlib.Core.Bool.{Bool, true, false, cond, _&&_, and-true, false≢true}
+use mathlib.Core.Logic.{_⊎_, inl, inr, ⊎-elim, _↔_}
+use mathlib.Core.Bool.{Bool, true, false, cond, _&&_, and-true}
 use mathlib.Core.List.{List, _++_}
 use mathlib.Core.Option.{Option, none, some}
 use lib.Dec.{eqb}
@@ -12,7 +12,7 @@ use borrow.Author.Tests.{eqb-true, eqb-false, le-leb}
 use Rattle.bits.proofs.Booleans.{and-left, false-elim, decide}
 use Rattle.level.specs.declared.Comparison.the-variants.{RankTooLow, CompartmentMissing}
 use Rattle.level.specs.Levels.{isAtMost, atMost, meetOf}
-use Rattle.level.proofs.Comparing.{is-at-most}
+use Rattle.level.proofs.Comparing.{rank-other, compartment-other, is-at-most}
 use Rattle.policy.specs.declared.Tables.{Tables}
 use Rattle.policy.specs.Checks.{ladder}
 use Rattle.policy.specs.Tables.{personAt, folderAt, personDeclared, folderDeclared}
@@ -98,15 +98,15 @@ as-write t a bytes bytes′ s p o n l is is′ of =
 
 -- ---- the level of standing
 
--- an outcome that is not "at most" is the only one that a number of low-water tells
+-- a request granted under low-water has the outcome "at most", and one answered 15 or 21 has not
 module _ (t : Tables) (a : State) (bytes : List ℕ) (r : Request) (is : requestOf bytes ≡ some r) where
   at-most : LowWaterInForce t → judgeNumber t a bytes ≡ 0 → isAtMost (standingOutcome t a r) ≡ true
   at-most on e = is-at-most _ .0 (granted-outcome t a bytes r is on e)
 
   not-at-most : OfLowWater (judgeNumber t a bytes) → isAtMost (standingOutcome t a r) ≡ false
   unfolding isAtMost outcomeNumber
-  not-at-most (inl e) = ap isAtMost (refused-outcome t a bytes r is RankTooLow (λ q. false≢true (ap isAtMost q)) e)
-  not-at-most (inr e) = ap isAtMost (refused-outcome t a bytes r is CompartmentMissing (λ q. false≢true (ap isAtMost q)) e)
+  not-at-most (inl e) = ap isAtMost (refused-outcome t a bytes r is RankTooLow rank-other e)
+  not-at-most (inr e) = ap isAtMost (refused-outcome t a bytes r is CompartmentMissing compartment-other e)
 
 read-person : (t : Tables) (s o : ℕ) → declared t (read s o) ≡ true → personDeclared t s ≡ true
 unfolding declared

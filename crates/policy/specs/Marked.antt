@@ -71,9 +71,9 @@ stepsBook =
 abbrev pub stepsRequests : List ℕ
 stepsRequests = 19 ∷ 0 ∷ 5 ∷ 1 ∷ 17 ∷ 0 ∷ 0 ∷ 19 ∷ 0 ∷ 3 ∷ 2 ∷ 19 ∷ 0 ∷ 0 ∷ 1 ∷ []
 
--- Point 5: low-water alone; person 0 at 0x2001, person 1 at 0x1003, folders 0, 1 and 2 at 0x1003, 0x3003 and 0x3001. Folder 0 and person 1
--- have a compartment that person 0 has not, and no higher rank; folder 1 has both, folder 2 a higher rank alone, and so has person 0 with
--- person 1
+-- Point 5: low-water alone; person 0 at 0x2001, person 1 at 0x1003, folders 0, 1 and 2 at 0x1003, 0x3003 and 0x3001. For folder 0, and to
+-- start person 1, person 0 lacks a compartment; for folder 1 the rank and a compartment; for folder 2 the rank; to start person 0, person 1
+-- lacks the rank
 abbrev pub clearancesBook : List ℕ
 clearancesBook =
     1 ∷ 2

@@ -1,4 +1,5 @@
--- The four rules as document 001 prints them (sections 4.1 to 4.4), with "there is" and "for all", as types.
+-- The four rules as document 001 prints them (sections 4.1 to 4.4), with "there is" and "for all", as types; and, of document 02, the
+-- levels held ready (Point 4) and why low-water refuses (Point 5).
 use Prim.Native.Nat.{ℕ, _+_, _*_, _≤_, _<_}
 use mathlib.Core.Path.{_≡_}
 use mathlib.Core.Logic.{_⊎_, _↔_, _≢_}

@@ -134,15 +134,15 @@ module _ (t : Tables) (H : Request → Bool) where
 
 -- how the level of folder o compares with that of person s, whose current level is `levels s`, and who is to modify o: by a write, or by a
 -- step, which alters the folder too
-unfoldable pub modifying : Tables → (ℕ → ℕ) → ℕ → ℕ → Comparison
-modifying t levels s o = compareOf 12 (folderAt t o .level .0) (levels s)
+unfoldable pub modifyOutcome : Tables → (ℕ → ℕ) → ℕ → ℕ → Comparison
+modifyOutcome t levels s o = compareOf 12 (folderAt t o .level .0) (levels s)
 
 -- the outcome of low-water's comparison, over a current level for each person; a read needs none
 unfoldable pub levelOutcome : Tables → (ℕ → ℕ) → Request → Comparison
 levelOutcome t levels (read s o) = AtMost
-levelOutcome t levels (write s o) = modifying t levels s o
+levelOutcome t levels (write s o) = modifyOutcome t levels s o
 levelOutcome t levels (start s u) = compareOf 12 (levels u) (levels s)
-levelOutcome t levels (step s p o) = modifying t levels s o
+levelOutcome t levels (step s p o) = modifyOutcome t levels s o
 
 -- low-water
 unfoldable pub lowWater : Tables → (ℕ → ℕ) → Request → Bool

@@ -21,8 +21,8 @@ const REQUESTS: [&[u8]; 11] = [
     &[19, 1, 0, 0],
 ];
 
-/// How far the rank that is held is above the rank just below the one asked for,
-/// and the compartment that is missing: none, or 1, which every folder's level has.
+/// The rank held minus the rank asked for, plus 1; and the compartment that is
+/// missing: none, or 1, which every folder's level has.
 const NEAR: [(u16, u16); 5] = [(0, 0), (0, 1), (1, 1), (2, 1), (1, 0)];
 
 impl Generator {
