@@ -1,5 +1,5 @@
--- The three checks that every call begins with. They pass exactly where both buffers have their lengths and a load gives the tables; then the
--- number is that of the checks after them, and where one refuses, what follows does not count. By cases on the three checks.
+-- The three checks that every call begins with. They pass exactly where both buffers have their lengths and a load gives the tables; then
+-- the number is that of the checks after them, and where one refuses, what follows does not count. By cases on the three checks.
 use Prim.Native.Nat.{ℕ}
 use native.Mathlib.Omega.{arith}
 use mathlib.Core.Path.{_≡_, refl, sym, _∙_}

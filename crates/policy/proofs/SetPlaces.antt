@@ -1,5 +1,5 @@
--- The set of a history is by the place of each request's bit: the definitions of the index, of a bit's byte and of a request that has a place
--- say together what document 01 says of each kind of request.
+-- The set of a history is by the place of each request's bit: the definitions of the index, of a bit's byte and of a request that has a
+-- place say together what document 01 says of each kind of request.
 use Prim.Native.Nat.{ℕ, _<_}
 use mathlib.Core.Path.{_≡_}
 use mathlib.Core.Logic.{_↔_}

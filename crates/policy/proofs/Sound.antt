@@ -209,7 +209,8 @@ module _ (Width : ℕ → ℕ → Type 0) where
         steps = s .steps;
       }
 
-  pub declares-sound : {t t′ : Tables} {rs : List Record} → Declares t rs t′ → Sound t → ((r : Record) → List·Memᴰ r rs → Fits r) → Sound t′
+  pub declares-sound : {t t′ : Tables} {rs : List Record} → Declares t rs t′ → Sound t → ((r : Record) → List·Memᴰ r rs → Fits r)
+      → Sound t′
   declares-sound no-record s w = s
   declares-sound (more-records {t = t} {r = r} p n d) s w =
       declares-sound d (declare-sound t r s p (w r (List·Memᴰ·head refl))) (λ q m. w q (List·Memᴰ·tail m))
