@@ -2,6 +2,10 @@
 //! where the rank is too low, and with 21 where the rank suffices and a
 //! compartment is missing.
 
+#[path = "common/drawn.rs"]
+mod drawn;
+
+use drawn::{request_of, tables_with};
 use reference::answers::answers;
 use reference::marked::{CLEARANCE_ANSWERS, CLEARANCE_BOOK, CLEARANCE_REQUESTS};
 use reference::random::Random;
@@ -199,31 +203,23 @@ fn masks_without_low_water_give_neither() {
     }
 }
 
-/// Four persons and six folders whose levels are apart by few bits, three firms
-/// of two classes, and roles of many rights.
+/// Four persons and six folders whose levels are apart by few bits.
 fn some_tables(random: &mut Random, mask: u8) -> Tables {
-    let mut book = vec![1, mask, 2, 0, 0, 2, 1, 0, 2, 2, 1];
     let level = |random: &mut Random, kept: u16| {
         let ranks = [0x3000, 0x3000, 0x3000, 0x2000, 0x4000];
         let compartments = (random.number() as u16 | kept) & 7;
         (random.pick(&ranks) | compartments).to_le_bytes()
     };
+    let mut parties = Vec::new();
     for person in 0..4 {
-        book.extend([3, person]);
-        book.extend(level(random, certain_compartments(person)));
+        parties.extend([3, person]);
+        parties.extend(level(random, certain_compartments(person)));
     }
     for folder in 0..6 {
-        book.extend([4, folder, folder % 3, folder]);
-        book.extend(level(random, 4));
+        parties.extend([4, folder, folder % 3, folder]);
+        parties.extend(level(random, 4));
     }
-    for role in 0..2 {
-        book.extend([5, role]);
-        book.extend((random.number() | random.number() | random.number()).to_le_bytes());
-    }
-    book.extend([6, 0, 1, 6, 1, 2, 0]);
-    let loaded = load(&book);
-    assert_eq!(loaded.number, 0);
-    loaded.tables
+    tables_with(random, mask, &parties)
 }
 
 /// Compartments that a person has for certain: most of the first persons'.
@@ -233,21 +229,8 @@ fn certain_compartments(person: u8) -> u16 {
 
 /// A request of declared parties, or now and then of undeclared ones.
 fn some_request(random: &mut Random) -> Request {
-    let (person, folder) = (random.below(41) as u8 / 10, random.below(61) as u8 / 10);
-    let step = random.below(4) as u8;
-    match random.below(6) {
-        0 => Request::Read { person, folder },
-        1..=2 => Request::Write { person, folder },
-        3 => Request::Start {
-            person,
-            other: random.below(41) as u8 / 10,
-        },
-        _ => Request::Step {
-            person,
-            step,
-            folder,
-        },
-    }
+    let person = |random: &mut Random| random.below(41) as u8 / 10;
+    request_of(random, person, |random| random.below(61) as u8 / 10)
 }
 
 /// Whether low-water grants, as document 01 says it, from bytes and bits alone.

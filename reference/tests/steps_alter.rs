@@ -5,8 +5,11 @@
 //! and 1 are at 0x2003, and folder 2 is at 0x1001.
 
 mod common;
+#[path = "common/drawn.rs"]
+mod drawn;
 
 use common::{marked, with_mask, NO_RUN};
+use drawn::{request_of, tables_with};
 use reference::history::History;
 use reference::marked::{STEP_ANSWERS, STEP_BOOK, STEP_REQUESTS};
 use reference::random::Random;
@@ -213,43 +216,24 @@ fn a_run_takes_the_level_from_its_own_steps() {
     assert_eq!(answers, [0, 0, 15, 0, 15, 99]);
 }
 
-/// Four persons and eight folders of many levels, and two roles.
+/// Four persons and eight folders of many levels.
 fn some_tables(random: &mut Random, mask: u8) -> Tables {
-    let mut book = vec![1, mask, 2, 0, 0, 2, 1, 0, 2, 2, 1];
+    let mut parties = Vec::new();
     let some_byte = |random: &mut Random| random.byte() | random.byte() | random.byte();
     for person in 0..4 {
-        book.extend([3, person, some_byte(random), some_byte(random)]);
+        parties.extend([3, person, some_byte(random), some_byte(random)]);
     }
     for folder in 0..8 {
         let (firm, level) = (random.below(3) as u8, [random.byte(), random.byte()]);
-        book.extend([4, folder, firm, folder, level[0] & 15, level[1]]);
+        parties.extend([4, folder, firm, folder, level[0] & 15, level[1]]);
     }
-    for role in 0..2 {
-        book.extend([5, role]);
-        book.extend((random.number() | random.number() | random.number()).to_le_bytes());
-    }
-    book.extend([6, 0, 1, 6, 1, 2, 0]);
-    let loaded = load(&book);
-    assert_eq!(loaded.number, 0);
-    loaded.tables
+    tables_with(random, mask, &parties)
 }
 
 /// A request of declared parties, or now and then of undeclared ones.
 fn some_request(random: &mut Random) -> Request {
-    let (person, folder) = (random.below(5) as u8, random.below(9) as u8);
-    match random.below(6) {
-        0 => Request::Read { person, folder },
-        1..=2 => Request::Write { person, folder },
-        3 => Request::Start {
-            person,
-            other: random.below(5) as u8,
-        },
-        _ => Request::Step {
-            person,
-            step: random.below(4) as u8,
-            folder,
-        },
-    }
+    let person = |random: &mut Random| random.below(5) as u8;
+    request_of(random, person, |random| random.below(9) as u8)
 }
 
 /// Requests put from blank, granted or not, and foreign bits, with the levels

@@ -102,7 +102,7 @@ module _ (t : Tables) (o level : ℕ) where
   asked false on entry = absurd (false≢true on)
 
 -- after low-water's check come roles where its number is 0
-pub level-then : (t : Tables) (c : Comparison) (m : ℕ)
+level-then : (t : Tables) (c : Comparison) (m : ℕ)
     → cond (inForce t lowWaterRule implies isAtMost c) m (outcomeNumber c) ≡ cond (eqb (lowWaterNumber t c) 0) m (lowWaterNumber t c)
 unfolding lowWaterNumber isAtMost outcomeNumber
 level-then t c m = go (inForce t lowWaterRule) c
@@ -115,7 +115,7 @@ level-then t c m = go (inForce t lowWaterRule) c
     go true CompartmentMissing = refl
 
 -- so the number of all three is that of the wall, then low-water's, then that of roles
-pub three-numbers : (t : Tables) (w r : Bool) (c : Comparison)
+three-numbers : (t : Tables) (w r : Bool) (c : Comparison)
     → numberOf t w c r
     ≡ cond (inForce t wallRule implies w)
     (cond (eqb (lowWaterNumber t c) 0) (cond (inForce t rolesRule implies r) 0 16) (lowWaterNumber t c)) 14

@@ -41,7 +41,7 @@ use Rattle.policy.proofs.Fronts.{front-request, parties-declared}
 use Rattle.policy.proofs.OutcomeNumbers.{of-low-water, zero-other, one-outcome}
 use Rattle.policy.proofs.WallNumber.{walled}
 use Rattle.policy.proofs.LevelNumber.{Before, levelled, judged-granted, judged-refused, refused-judged, walled-judged}
-use Rattle.policy.proofs.Wanting.{rank-stays, compartments-suffice}
+use Rattle.policy.proofs.OtherCompartments.{rank-stays, compartments-suffice}
 use Rattle.policy.proofs.Published.{level-is-meet, low-water-published}
 use Rattle.policy.proofs.Held.{low-water-held}
 use Rattle.policy.proofs.Histories.{judge-request}

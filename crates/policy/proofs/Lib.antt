@@ -46,7 +46,7 @@ pub mod LevelBytes
 pub mod Held
 pub mod LevelNumber
 pub mod Compared
-pub mod Wanting
+pub mod OtherCompartments
 pub mod Clearances
 pub mod StepsAlter
 pub mod Blanks

@@ -1,16 +1,22 @@
 -- `judge_start` is 13 for undeclared parties, and otherwise low-water of both stored levels, then roles with right 32.
-use mathlib.Core.Path.{sym, _∙_}
-use denote.Ref.{now}
+use Prim.Native.Nat.{ℕ}
+use mathlib.Core.Path.{_≡_, sym, _∙_}
+use mathlib.Core.Bool.{Bool, true, false, not, _&&_}
 use borrow.Author.Tests.{ne-eqb, not-true, not-false}
 use borrow.Author.Needs.{needs}
 use Rattle.bits.proofs.Booleans.{and-both}
+use Rattle.policy.specs.declared.Tables.{Tables}
 use Rattle.policy.specs.Tables.{personDeclared}
 use Rattle.policy.specs.Request.{start}
 use Rattle.policy.specs.Rules.{declared}
-use Rattle.packed.specs.Packed.{tablesOf}
 use Rattle.judging.proofs.JudgingLaws.{whole-part, known-both, not-declared, start-by, start-number}
 use Rattle.judging.proofs.judge_start.Statement.{statement}
 use Rattle.judging.proofs.judge_start.Tie as tie
+
+-- the persons that the test of both does not refuse
+both-known : (t : Tables) (s u : ℕ) {r : Bool} → r ≡ personDeclared t s && personDeclared t u → not r ≡ false
+    → (personDeclared t s ≡ true) × (personDeclared t u ≡ true)
+both-known t s u {r} e n = known-both (personDeclared t s) (personDeclared t u) r e n
 
 are-persons-requires : tie.Need-are-persons-requires
 are-persons-requires c κs = search needs
@@ -22,22 +28,16 @@ returns c = sym (not-declared _ _ _ (start _ _) (sym (c .before .are-persons .en
 start-number-requires : tie.Need-start-number-requires
 start-number-requires c κs =
     let start = c .before .before .before .before in
-    let t = tablesOf (now (start .args .t)) in
-    let are-persons = c .before .are-persons in
-    let known =
-    known-both (personDeclared t (start .args .s)) (personDeclared t (start .args .u))
-    (are-persons .result) (are-persons .ensures) (c .if1 .left) in
+    let tested = c in
+    let known = both-known _ _ _ (tested .before .are-persons .ensures) (tested .if1 .left) in
     (start .pre .held, known .0, known .1)
 
 returns-2 : tie.Need-returns-2
 unfolding declared
 returns-2 c =
     let start = c .before .before .before .before .before .before in
-    let t = tablesOf (now (start .args .t)) in
-    let are-persons = c .before .before .before .are-persons in
-    let known =
-    known-both (personDeclared t (start .args .s)) (personDeclared t (start .args .u))
-    (are-persons .result) (are-persons .ensures) (c .before .before .if1 .left) in
+    let tested = c .before .before in
+    let known = both-known _ _ _ (tested .before .are-persons .ensures) (tested .if1 .left) in
     let number = c .before .start-number in
     sym
     (start-number _ _ _ (start .pre .tables) _ _ (and-both _ _ (known .0) (known .1)) ∙ start-by _ _ _ _ _ _ (number .ensures)
@@ -50,11 +50,8 @@ returns-3 : tie.Need-returns-3
 unfolding declared
 returns-3 c =
     let start = c .before .before .before .before .before .before .before .before in
-    let t = tablesOf (now (start .args .t)) in
-    let are-persons = c .before .before .before .before .before .are-persons in
-    let known =
-    known-both (personDeclared t (start .args .s)) (personDeclared t (start .args .u))
-    (are-persons .result) (are-persons .ensures) (c .before .before .before .before .if1 .left) in
+    let tested = c .before .before .before .before in
+    let known = both-known _ _ _ (tested .before .are-persons .ensures) (tested .if1 .left) in
     let passed = sym (c .before .before .if2 .left) ∙ c .before .before .before .start-number .ensures in
     let off = sym (c .before .in-force .ensures) ∙ not-true _ (c .if3 .taken) in
     sym
@@ -72,22 +69,16 @@ part-start-roles-end c = search needs
 start-roles-requires : tie.Need-start-roles-requires
 start-roles-requires c κs =
     let start = c .before .before .before .before .before .before .before .before .before in
-    let t = tablesOf (now (start .args .t)) in
-    let are-persons = c .before .before .before .before .before .before .are-persons in
-    let known =
-    known-both (personDeclared t (start .args .s)) (personDeclared t (start .args .u))
-    (are-persons .result) (are-persons .ensures) (c .before .before .before .before .before .if1 .left) in
+    let tested = c .before .before .before .before .before in
+    let known = both-known _ _ _ (tested .before .are-persons .ensures) (tested .if1 .left) in
     rw whole-part (start .pre .tables, start .pre .size, known .0)
 
 returns-4 : tie.Need-returns-4
 unfolding declared
 returns-4 c =
     let start = c .before .before .before .before .before .before .before .before .before .before in
-    let t = tablesOf (now (start .args .t)) in
-    let are-persons = c .before .before .before .before .before .before .before .are-persons in
-    let known =
-    known-both (personDeclared t (start .args .s)) (personDeclared t (start .args .u))
-    (are-persons .result) (are-persons .ensures) (c .before .before .before .before .before .before .if1 .left) in
+    let tested = c .before .before .before .before .before .before in
+    let known = both-known _ _ _ (tested .before .are-persons .ensures) (tested .if1 .left) in
     let passed = sym (c .before .before .before .before .if2 .left) ∙ c .before .before .before .before .before .start-number .ensures in
     let on = sym (c .before .before .before .in-force .ensures) ∙ not-false _ (c .before .before .if3 .left) in
     rw whole-part at (c .start-roles .ensures)
