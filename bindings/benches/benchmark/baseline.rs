@@ -4,49 +4,8 @@
 //! doubling, the set of the declared persons made once a run. A level is read
 //! from the lent levels and stored there. Tables are lent by reference.
 
+use crate::shared::*;
 use crate::tables::{given, load, Folder, Tables};
-
-pub const HISTORY_BYTES: usize = 18_944;
-pub const LEVELS_BYTES: usize = 128;
-
-fn at_most(a: u16, b: u16) -> bool {
-    a >> 12 <= b >> 12 && a & b & 0xfff == a & 0xfff
-}
-
-/// The number of a refusal, asked for only where a is not at most b: 15 where
-/// the rank of b is too low, else a compartment is missing.
-fn refusal(a: u16, b: u16) -> u8 {
-    if a >> 12 > b >> 12 {
-        15
-    } else {
-        21
-    }
-}
-
-fn meet(a: u16, b: u16) -> u16 {
-    (a & 0xf000).min(b & 0xf000) | a & b & 0xfff
-}
-
-/// The stored level of a person.
-fn level_of(levels: &[u8], s: usize) -> u16 {
-    u16::from_le_bytes([levels[2 * s], levels[2 * s + 1]])
-}
-
-/// Stores the meet with the level of the folder of a granted read or step.
-fn lower(t: &Tables, levels: &mut [u8], record: &[u8]) {
-    let o = match record[0] {
-        16 => record[2],
-        19 => record[3],
-        _ => return,
-    };
-    let s = usize::from(record[1]);
-    let level = meet(level_of(levels, s), t.folders[usize::from(o)].level);
-    levels[2 * s..2 * s + 2].copy_from_slice(&level.to_le_bytes());
-}
-
-fn bit(h: &[u8], i: usize) -> bool {
-    h[i / 8] >> (i % 8) & 1 == 1
-}
 
 struct Past {
     rights: u64,
@@ -67,25 +26,6 @@ fn stepped_by(h: &[u8], s: usize) -> [u64; 2] {
         }
     }
     stepped
-}
-
-/// The steps that a person applied to a folder: bits eight bytes apart, from
-/// the last step down, each turn doubling the sum.
-fn steps_of(h: &[u8], s: usize, o: usize) -> u16 {
-    let last = 2680 + 128 * o + s / 8;
-    let one = 1 << (s % 8);
-    let mut sum: u32 = 0;
-    for p in 0..16 {
-        sum = 2 * sum + u32::from(h[last - 8 * p] & one);
-    }
-    (sum >> (s % 8)) as u16
-}
-
-/// The 64 bits of the eight bytes from a place on.
-fn word(h: &[u8], at: usize) -> u64 {
-    let mut bytes = [0; 8];
-    bytes.copy_from_slice(&h[at..at + 8]);
-    u64::from_le_bytes(bytes)
 }
 
 fn has_started(t: &Tables, h: &[u8], s: usize) -> bool {
@@ -145,34 +85,6 @@ fn roles_permit(t: &Tables, used: u64, right: usize) -> bool {
         .any(|role| role.declared && rights & role.rights == rights)
 }
 
-/// The set of the declared persons, made once a run.
-fn declared_persons(t: &Tables) -> u64 {
-    let mut persons = 0;
-    for (s, person) in t.persons.iter().enumerate() {
-        if person.declared {
-            persons |= 1 << s;
-        }
-    }
-    persons
-}
-
-fn pipeline_permits(t: &Tables, persons: u64, h: &[u8], q: usize, o: usize) -> bool {
-    let mut done: u16 = 0;
-    for p in 0..16 {
-        if word(h, 2560 + 128 * o + 8 * p) & persons != 0 {
-            done |= 1 << p;
-        }
-    }
-    if q == 0 {
-        return done == 0;
-    }
-    (0..16).any(|p| done >> p & 1 == 1 && t.steps[p] >> q & 1 == 1 && t.steps[p] & done == 0)
-}
-
-fn in_force(t: &Tables, rule: u8) -> bool {
-    t.mask >> rule & 1 == 1
-}
-
 fn judge_access(
     t: &Tables,
     h: &[u8],
@@ -204,10 +116,6 @@ fn judge_access(
     }
 }
 
-fn are_declared(t: &Tables, s: usize, o: usize) -> bool {
-    s < 64 && t.persons[s].declared && o < 128 && t.folders[o].declared
-}
-
 fn judge_step(
     t: &Tables,
     persons: u64,
@@ -219,7 +127,7 @@ fn judge_step(
         return 13;
     }
     let number = judge_access(t, h, levels, (s, o), 48 + p, true);
-    if number != 0 || !in_force(t, 3) || pipeline_permits(t, persons, h, p, o) {
+    if number != 0 || !in_force(t, 3) || step_permitted(t, steps_done(persons, h, o), p) {
         return number;
     }
     17
@@ -273,34 +181,11 @@ fn judge(t: &Tables, persons: u64, h: &[u8], levels: &[u8], bytes: &[u8]) -> (u8
     (number, index, length)
 }
 
-/// The length of the record at the front; 0 where it is unknown or cut.
-fn record_length(bytes: &[u8]) -> usize {
-    match bytes {
-        [16..=18, _, _, ..] => 3,
-        [19, _, _, _, ..] => 4,
-        _ => 0,
-    }
-}
-
-fn answers_due(requests: &[u8]) -> usize {
-    let (mut at, mut due) = (0, 0);
-    while at < requests.len() {
-        at += match record_length(&requests[at..]) {
-            0 => requests.len() - at,
-            length => length,
-        };
-        due += 1;
-    }
-    due
-}
-
 /// The number of the tables and the lengths: 10, 20, 11 or 18.
-fn check(t: &Tables, lengths: [usize; 2], requests: &[u8], room: usize) -> u8 {
-    if lengths[0] != HISTORY_BYTES {
-        return 10;
-    }
-    if lengths[1] != LEVELS_BYTES {
-        return 20;
+fn check(t: &Tables, h: &[u8], levels: &[u8], requests: &[u8], room: usize) -> u8 {
+    let number = check_lengths(h, levels);
+    if number != 0 {
+        return number;
     }
     if !given(t) {
         return 11;
@@ -324,7 +209,7 @@ pub fn run(
         Ok(t) => t,
         Err(number) => return (number, 0, 0),
     };
-    let number = check(&t, [h.len(), levels.len()], requests, answers.len());
+    let number = check(&t, h, levels, requests, answers.len());
     if number != 0 {
         return (number, 0, 0);
     }

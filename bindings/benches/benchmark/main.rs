@@ -1,16 +1,21 @@
-//! Compares the proved monitor with the same algorithm in plain Rust: one run
-//! call on the same bytes, nanoseconds a request. Both must give the same. At the
-//! end it prints how much longer the proved monitor takes where low-water alone
-//! is in force than where no rule is; the exit status is not 0 if that is too
-//! much.
+//! Compares the proved monitor with plain Rust: one run call on the same bytes,
+//! nanoseconds a request. One side of plain Rust has the algorithm of a monitor
+//! that walks what a person did at each request; the other gathers it once and
+//! keeps it. All must give the same. Then one judge, and the load of a book. At
+//! the end it prints the bars; the exit status is not 0 if one is missed.
 
+mod alone;
+mod bars;
 mod baseline;
+mod gathering;
+mod inputs;
+mod keeping;
+mod kinds;
+mod shared;
 mod tables;
 
-use reference::history::set_of;
-use reference::levels::write_levels;
-use reference::random::Random;
-use reference::State;
+use bars::Row;
+use inputs::{inputs, Input, Lent, Workload, ONE_JUDGE, ONE_REQUEST, WORKLOADS};
 use std::hint::black_box;
 use std::process::ExitCode;
 use std::time::Instant;
@@ -19,112 +24,16 @@ use std::time::Instant;
 /// quickest run of an input counts.
 const ROUNDS: usize = 29;
 
-const DAY: usize = 2_300;
-const DAYS: usize = 30;
-const MONTH: usize = 70_000;
-
-/// So many inputs of so many requests each. There are as many days as make a
-/// month: a processor that meets the same day again and again learns it.
-struct Workload {
-    name: &'static str,
-    inputs: usize,
-    requests: usize,
-    dense: bool,
-}
-
-const fn workload(name: &'static str, inputs: usize, requests: usize, dense: bool) -> Workload {
-    Workload {
-        name,
-        inputs,
-        requests,
-        dense,
-    }
-}
-
-const WORKLOADS: [Workload; 4] = [
-    workload("day", DAYS, DAY, false),
-    workload("month", 1, MONTH, false),
-    workload("day, dense history", DAYS, DAY, true),
-    workload("month, dense history", 1, MONTH, true),
-];
+/// One measurement of loading is so many loads of one book.
+const LOADS: usize = 100;
 
 /// All rules, each rule alone (wall, low-water, roles, pipeline), and no rule.
 const MASKS: [u8; 6] = [15, 1, 2, 0, 4, 8];
-
-/// The masks of low-water alone and of no rule.
-const LOW_WATER: u8 = 2;
 const NO_RULE: u8 = 0;
 
-/// A request under low-water takes at most so many times as long as one under
-/// no rule.
-const MOST: f64 = 1.8;
-
-/// A book that declares every number.
-fn full_book(random: &mut Random, mask: u8) -> Vec<u8> {
-    let mut book = vec![1, mask];
-    for firm in 0..64 {
-        book.extend([2, firm, firm % 32]);
-    }
-    for person in 0..64 {
-        book.extend([3, person, 255, 255]);
-    }
-    for folder in 0..128 {
-        let kind = random.below(16) as u8;
-        let level = !(1u16 << random.below(16));
-        book.extend([4, folder, folder % 64, kind]);
-        book.extend(level.to_le_bytes());
-    }
-    for role in 0..32 {
-        let rights = random.number() | random.number() | random.number();
-        let rights = if role == 31 { u64::MAX } else { rights };
-        book.extend([5, role]);
-        book.extend(rights.to_le_bytes());
-    }
-    for step in 0..15 {
-        book.extend([6, step, step + 1]);
-    }
-    book.push(0);
-    book
-}
-
-fn requests(random: &mut Random, count: usize) -> Vec<u8> {
-    let mut requests = Vec::new();
-    for _ in 0..count {
-        let person = random.below(64) as u8;
-        let folder = random.below(128) as u8;
-        match random.below(10) {
-            0..=3 => requests.extend([16, person, folder]),
-            4..=6 => requests.extend([17, person, folder]),
-            7 => requests.extend([18, person, random.below(64) as u8]),
-            _ => requests.extend([19, person, random.below(4) as u8, folder]),
-        }
-    }
-    requests
-}
-
-/// The history and the levels that a run is lent.
-#[derive(Clone, PartialEq, Eq)]
-struct Lent {
-    history: Vec<u8>,
-    levels: Vec<u8>,
-}
-
-/// Blank, or a dense history and the levels that it gives.
-fn first_lent(random: &mut Random, book: &[u8], dense: bool) -> Lent {
-    let mut history = vec![99; baseline::HISTORY_BYTES];
-    let mut levels = vec![99; baseline::LEVELS_BYTES];
-    assert_eq!(kweldabe::blank(book, &mut history, &mut levels), 0);
-    if dense {
-        history.fill_with(|| random.byte());
-        let tables = reference::load(book).tables;
-        let mut state = State::blank(&tables);
-        for past in set_of(&history) {
-            state.record(&tables, &past);
-        }
-        write_levels(&state.levels, &mut levels);
-    }
-    Lent { history, levels }
-}
+const HEADING: &str =
+    "| workload | mask | requests | granted | proved, ns | plain Rust, ns | ratio | keeping Rust, ns | ratio |
+|---|---|---|---|---|---|---|---|---|";
 
 /// What a run leaves: its number and counts, history and levels, and the answers.
 type Left = ((u8, usize, usize), Lent, Vec<u8>);
@@ -144,29 +53,9 @@ fn timed(
     ((ran, lent, answers), nanoseconds)
 }
 
-/// The bytes of one run: the book, the requests, and history and levels before
-/// it.
-struct Input {
-    book: Vec<u8>,
-    requests: Vec<u8>,
-    first: Lent,
-}
-
-fn input(workload: &Workload, mask: u8, seed: usize) -> Input {
-    let mut random = Random::new(seed as u64);
-    let book = full_book(&mut random, mask);
-    let requests = requests(&mut random, workload.requests);
-    let first = first_lent(&mut random, &book, workload.dense);
-    Input {
-        book,
-        requests,
-        first,
-    }
-}
-
-/// What both sides grant of an input, and the nanoseconds of the proved and of
-/// the plain run.
-fn both(input: &Input, count: usize) -> (usize, f64, f64) {
+/// What all sides grant of an input, and the nanoseconds of the proved run, the
+/// plain one and the one that keeps.
+fn all_runs(input: &Input, count: usize) -> (usize, [f64; 3]) {
     let (book, requests) = (&input.book, &input.requests);
     let proved = |lent: &mut Lent, answers: &mut [u8]| {
         let Lent { history, levels } = lent;
@@ -177,77 +66,143 @@ fn both(input: &Input, count: usize) -> (usize, f64, f64) {
     let plain = |lent: &mut Lent, answers: &mut [u8]| {
         baseline::run(book, &mut lent.history, &mut lent.levels, requests, answers)
     };
+    let keeping = |lent: &mut Lent, answers: &mut [u8]| {
+        keeping::run(book, &mut lent.history, &mut lent.levels, requests, answers)
+    };
     let (left, ours) = timed(proved, &input.first, count);
     let (plain_left, theirs) = timed(plain, &input.first, count);
-    assert!(left == plain_left, "the two differ");
+    let (keeping_left, kept) = timed(keeping, &input.first, count);
+    assert!(left == plain_left, "proved and plain differ");
+    assert!(left == keeping_left, "proved and keeping differ");
     assert_eq!(left.0 .0, 0);
-    (left.0 .1, ours, theirs)
+    (left.0 .1, [ours, theirs, kept])
 }
 
-/// Prints a row, and gives the nanoseconds that a request takes of the proved
-/// monitor.
-fn compare(workload: &Workload, mask: u8) -> f64 {
-    let mut granted = vec![0; workload.inputs];
-    let mut ours = vec![f64::MAX; workload.inputs];
-    let mut theirs = vec![f64::MAX; workload.inputs];
-    let inputs: Vec<Input> = (0..workload.inputs)
-        .map(|k| input(workload, mask, 1 + k))
-        .collect();
+/// One judge of an input: 1 if it is granted, and the nanoseconds of the proved
+/// and of the plain side.
+fn all_judges(input: &Input) -> (usize, [f64; 2]) {
+    let Lent { history, levels } = &input.first;
+    let (book, request) = (black_box(&input.book), black_box(&input.requests));
+    let start = Instant::now();
+    let proved = black_box(kweldabe::judge(book, history, levels, request));
+    let ours = start.elapsed().as_nanos() as f64;
+    let start = Instant::now();
+    let plain = black_box(alone::judge_alone(book, history, levels, request));
+    let theirs = start.elapsed().as_nanos() as f64;
+    assert_eq!(proved, plain);
+    (usize::from(proved == 0), [ours, theirs])
+}
+
+/// One load of a book by each side: the nanoseconds.
+fn all_loads(input: &Input) -> (usize, [f64; 2]) {
+    let book = black_box(&input.book);
+    let start = Instant::now();
+    for _ in 0..LOADS {
+        assert_eq!(kweldabe::load(black_box(book)).number, 0);
+    }
+    let ours = start.elapsed().as_nanos() as f64;
+    let start = Instant::now();
+    for _ in 0..LOADS {
+        assert!(black_box(&tables::load(black_box(book))).is_ok());
+    }
+    let theirs = start.elapsed().as_nanos() as f64;
+    (0, [ours, theirs])
+}
+
+/// What is granted of all inputs, and for each side the sum of the quickest
+/// runs.
+fn quickest<const SIDES: usize>(
+    inputs: &[Input],
+    measure: impl Fn(&Input) -> (usize, [f64; SIDES]),
+) -> (usize, [f64; SIDES]) {
+    let mut granted = vec![0; inputs.len()];
+    let mut best = vec![[f64::MAX; SIDES]; inputs.len()];
     for _ in 0..ROUNDS {
         for (k, input) in inputs.iter().enumerate() {
-            let (zeros, proved, plain) = both(input, workload.requests);
+            let (zeros, times) = measure(input);
             granted[k] = zeros;
-            ours[k] = proved.min(ours[k]);
-            theirs[k] = plain.min(theirs[k]);
+            for (best, time) in best[k].iter_mut().zip(times) {
+                *best = time.min(*best);
+            }
         }
     }
-    let count = (workload.inputs * workload.requests) as f64;
-    let (ours, theirs): (f64, f64) = (ours.iter().sum(), theirs.iter().sum());
-    println!(
-        "| {} | {} | {} | {} | {:.1} | {:.1} | {:.2} |",
-        workload.name,
-        mask,
-        count,
-        granted.iter().sum::<usize>(),
-        ours / count,
-        theirs / count,
-        ours / theirs
-    );
-    ours / count
+    let mut sums = [0.0; SIDES];
+    for (side, sum) in sums.iter_mut().enumerate() {
+        *sum = best.iter().map(|times| times[side]).sum();
+    }
+    (granted.iter().sum(), sums)
 }
 
-/// The rows of a workload. Where the history is not dense it gives how many
-/// times as long low-water alone takes as no rule.
-fn rows(workload: &Workload) -> Option<f64> {
-    let (mut low_water, mut no_rule) = (0.0, 0.0);
-    for mask in MASKS {
-        if mask == NO_RULE && workload.dense {
-            continue;
-        }
-        let nanoseconds = compare(workload, mask);
-        match mask {
-            LOW_WATER => low_water = nanoseconds,
-            NO_RULE => no_rule = nanoseconds,
-            _ => {}
-        }
-    }
-    (!workload.dense).then_some(low_water / no_rule)
+/// Measures and prints a row of run calls.
+fn compare(workload: &Workload, mask: u8) -> Row {
+    let measure = |input: &Input| all_runs(input, workload.requests);
+    let (granted, sums) = quickest(&inputs(workload, mask), measure);
+    let requests = workload.inputs * workload.requests;
+    let [proved, plain, keeping] = sums.map(|sum| sum / requests as f64);
+    let row = Row {
+        name: workload.name,
+        mask,
+        dense: workload.dense,
+        requests,
+        granted,
+        proved,
+        plain,
+        keeping: Some(keeping),
+    };
+    println!("{row}");
+    row
+}
+
+/// Measures and prints a row of one judge.
+fn compare_judges(workload: &Workload, mask: u8) {
+    let (granted, sums) = quickest(&inputs(workload, mask), all_judges);
+    let requests = workload.inputs;
+    let [proved, plain] = sums.map(|sum| sum / requests as f64);
+    let row = Row {
+        name: workload.name,
+        mask,
+        dense: workload.dense,
+        requests,
+        granted,
+        proved,
+        plain,
+        keeping: None,
+    };
+    println!("{row}");
+}
+
+/// Measures and prints the load of a full book: how many times as long the
+/// proved load takes.
+fn compare_loads() -> f64 {
+    let inputs = inputs(&ONE_REQUEST, MASKS[0]);
+    let (_, sums) = quickest(&inputs, all_loads);
+    let [proved, plain] = sums.map(|sum| sum / (inputs.len() * LOADS) as f64);
+    let ratio = proved / plain;
+    println!(
+        "load of a full book: proved {proved:.1} ns, plain Rust {plain:.1} ns, ratio {ratio:.2}"
+    );
+    ratio
 }
 
 fn main() -> ExitCode {
-    println!("| workload | mask | requests | granted | proved, ns | plain Rust, ns | ratio |");
-    println!("|---|---|---|---|---|---|---|");
-    let ratios: Vec<_> = WORKLOADS.iter().map(|it| (it.name, rows(it))).collect();
-    compare(&workload("one request", DAYS, 1, false), 15);
-    println!();
-    let mut code = ExitCode::SUCCESS;
-    for (name, ratio) in ratios {
-        let Some(ratio) = ratio else { continue };
-        println!("{name}: low-water alone takes {ratio:.2} times as long as no rule");
-        if ratio > MOST {
-            eprintln!("{name}: low-water alone takes more than {MOST} times as long as no rule");
-            code = ExitCode::FAILURE;
+    println!("{HEADING}");
+    let mut rows = Vec::new();
+    for workload in &WORKLOADS {
+        for mask in MASKS {
+            if mask != NO_RULE || !workload.dense {
+                rows.push(compare(workload, mask));
+            }
         }
     }
-    code
+    let one_requests = [15, 1, 4, 0].map(|mask| compare(&ONE_REQUEST, mask));
+    for mask in [15, 1, 4] {
+        compare_judges(&ONE_JUDGE, mask);
+    }
+    println!();
+    let load = compare_loads();
+    println!();
+    match bars::hold(&rows, &one_requests, load) {
+        true => ExitCode::SUCCESS,
+        false => ExitCode::FAILURE,
+    }
 }

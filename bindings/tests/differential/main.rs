@@ -1,24 +1,33 @@
 //! Plays random calls on the proved monitor and on the independent reference,
 //! and compares every result and every lent byte.
 
+#[path = "../../benches/benchmark/alone.rs"]
+mod alone;
 #[path = "../../benches/benchmark/baseline.rs"]
 mod baseline;
 mod books;
 mod clearance;
+#[path = "../../benches/benchmark/gathering.rs"]
+mod gathering;
+#[path = "../../benches/benchmark/keeping.rs"]
+mod keeping;
+#[path = "../../benches/benchmark/kinds.rs"]
+mod kinds;
 mod lent;
 mod monitor;
 mod mutant;
+mod plain;
 mod requests;
 mod scene;
 mod seen;
+#[path = "../../benches/benchmark/shared.rs"]
+mod shared;
 #[path = "../../benches/benchmark/tables.rs"]
 mod tables;
 
 use monitor::Proved;
 use mutant::{Mutant, Mutation};
-use reference::random::Random;
 use reference::{marked, Buffers};
-use requests::Parties;
 use seen::{Seen, ANSWER, NUMBERS};
 
 /// The calls that the main test compares at least.
@@ -76,51 +85,6 @@ fn each_mutation_is_found() {
             None => panic!("{mutation:?} was not found"),
         }
     }
-}
-
-/// The plain Rust of the benchmark, whose own books have no public folder.
-#[test]
-fn the_baseline_agrees() {
-    let mut seen = Seen::default();
-    for seed in 0..1_000 {
-        let mut random = Random::new(seed);
-        let book = books::some_book(&mut random);
-        let loaded = reference::load(&book);
-        let requests = Parties::of(&mut random, &loaded.tables).requests(&mut random, 60);
-        let (mut plain, mut answers) = (some_buffers(&mut random, &loaded.tables), [[99; 61]; 2]);
-        let mut theirs = plain.clone();
-        let Buffers { history, levels } = &mut plain;
-        let ran = baseline::run(&book, history, levels, &requests, &mut answers[0]);
-        let mut expected = (loaded.number, 0, 0);
-        if loaded.number == 0 {
-            let ran = theirs.run(&loaded.tables, &requests, &mut answers[1]);
-            expected = (ran.number, ran.granted, ran.refused);
-        }
-        assert_eq!(ran, expected, "seed {seed}");
-        assert!(plain == theirs, "seed {seed}");
-        assert_eq!(answers[0], answers[1], "seed {seed}");
-        for answer in &answers[0][..ran.1 + ran.2] {
-            seen.count(ANSWER, *answer);
-        }
-    }
-    let numbers = seen.calls[ANSWER];
-    println!("the baseline answered each number so often: {numbers:?}");
-    assert!(numbers[15] >= 500 && numbers[21] >= 500);
-}
-
-/// Blank, or with other levels, and now and then with levels of another length.
-fn some_buffers(random: &mut Random, tables: &reference::Tables) -> Buffers {
-    let mut buffers = Buffers::blank(tables);
-    if random.chance(50) {
-        for byte in &mut buffers.levels {
-            *byte ^= random.byte() & random.byte() & random.byte();
-        }
-    }
-    if random.chance(5) {
-        let length = random.pick(&[0, 127, 129]);
-        buffers.levels.resize(length, 255);
-    }
-    buffers
 }
 
 /// Runs requests from blank: the number, what is left, and the answers.

@@ -4,3 +4,4 @@ pub mod BitLaws
 pub mod Masks
 pub mod LowestBit
 pub mod SetFolds
+pub mod FillingLaws

@@ -1,2 +1,3 @@
 pub mod Bounded
 pub mod Bits
+pub mod Filling

@@ -1,6 +1,6 @@
 // Bits of numbers, bit 0 lowest. The number of a bit is taken modulo the width, as a shift takes it, so each function is total.
 ghost use mathlib.Core.Path.{_≡_};
-ghost use mathlib.Core.Bool.{cond};
+ghost use mathlib.Core.Bool.{cond, _&&_};
 ghost use Prim.Native.Nat.{_%_, _<_};
 ghost use Rattle.bits.specs.Bits.{bit, withBit, withoutBit};
 ghost use Rattle.bits.specs.Bounded.{countBelow, lowestBelow};
@@ -104,4 +104,11 @@ pub fn without_lowest64(n: u64) -> u64
         return 0;
     }
     n & (n - 1)
+}
+
+// "And" of two tests that are both at hand: no jump tells which of them fails.
+pub fn both(a: bool, b: bool) -> bool
+    ensures { λ r. ⌜ r ≡ (a && b) ⌝ }
+{
+    if a { b } else { false }
 }

@@ -1,14 +1,17 @@
 -- What a call by a book comes to, once the book is refused or loaded. `l` is what loading returned, and `m` what the definition says.
 use Prim.Native.Nat.{ℕ}
-use mathlib.Core.Path.{_≡_, _∙_}
+use mathlib.Core.Path.{_≡_, sym, ap, _∙_}
+use mathlib.Core.Bool.{true}
 use mathlib.Core.Logic.{_≢_}
 use mathlib.Core.List.{List}
 use borrow.Author.Tests.{eq-eqb, ne-eqb}
 use Rattle.policy.specs.declared.Loaded.{Loaded}
 use Rattle.policy.specs.declared.Ran.{Ran}
 use Rattle.policy.specs.declared.Standing.{Standing}
+use Rattle.policy.specs.Rulebook.{given, loadBook}
+use Rattle.policy.proofs.Loads.{loaded-given}
 use Rattle.policy.specs.Calls.{State, blankNumber, blankState, judgeNumber, putState, standing}
-use Rattle.monitor.specs.Refused.{noRun, noStanding, RunIs}
+use Rattle.loaded.specs.Refused.{noRun, noStanding, RunIs}
 use Rattle.exports.specs.Packed.{
   packedLoad,
   packedRun,
@@ -89,3 +92,7 @@ module _ {l m : Loaded} (same : l ≡ m) where
         → packedStanding (x .number) (x .level .0) (x .rights) (x .firms) ≡ standingPacked (standingBy m a person)
     unfolding standingPacked standingBy
     standing-loaded a person x is = rw (← same, eq-eqb (l .number) 0 good, is)
+
+-- the tables of a book that was loaded are given
+pub loaded-tables : {l : Loaded} (book : List ℕ) → l ≡ loadBook book → l .number ≡ 0 → given (l .tables) ≡ true
+loaded-tables book e zero = rw e (loaded-given book (ap (λ (l : Loaded). l .number) (sym e) ∙ zero))

@@ -9,7 +9,7 @@ use Rattle.policy.specs.declared.Loaded.{Loaded}
 use Rattle.policy.specs.declared.Ran.{Ran}
 use Rattle.policy.specs.declared.Standing.{Standing}
 use Rattle.policy.specs.Calls.{State, blankNumber, blankState, judgeNumber, putState, ran, runState, runAnswers, standing}
-use Rattle.monitor.specs.Refused.{noRun, noStanding}
+use Rattle.loaded.specs.Refused.{noRun, noStanding}
 
 -- number in bits 0 to 7, offset modulo 2^56 in bits 8 to 63
 unfoldable pub packedLoad : ℕ → ℕ → ℕ

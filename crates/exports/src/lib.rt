@@ -54,11 +54,11 @@ pub extern "C" fn kweldabe_blank(book: &[u8], history: &mut [u8], levels: &mut [
         ≡ blankedBy (loadBook (now (book .entry))) (state (now (history .entry)) (now (levels .entry))))
         ⌝ }
 {
-    let loaded = monitor::load(book);
-    if loaded.number != numbers::GRANTED {
-        return loaded.number;
+    let given = monitor::load(book);
+    if given.number != numbers::GRANTED {
+        return given.number;
     }
-    monitor::blank(loaded.tables, history, levels)
+    loaded::blank(given.tables, history, levels)
 }
 
 // Loads a book: its number, and the offset of the end record or the refused one.
@@ -66,8 +66,8 @@ pub extern "C" fn kweldabe_blank(book: &[u8], history: &mut [u8], levels: &mut [
 pub extern "C" fn kweldabe_load(book: &[u8]) -> u64
     ensures { λ r. ⌜ r ≡ loadPacked (loadBook (now (book .entry))) ⌝ }
 {
-    let loaded = monitor::load(book);
-    pack_load(loaded.number, loaded.offset)
+    let given = monitor::load(book);
+    pack_load(given.number, given.offset)
 }
 
 // How many bytes follow the end record of a book; 0 for a refused one.
@@ -86,11 +86,11 @@ pub extern "C" fn kweldabe_judge(book: &[u8], history: &[u8], levels: &[u8], req
         r ≡ judgeBy (loadBook (now (book .entry))) (state (now (history .entry)) (now (levels .entry))) (now (request .entry))
         ⌝ }
 {
-    let loaded = monitor::load(book);
-    if loaded.number != numbers::GRANTED {
-        return loaded.number;
+    let given = monitor::load(book);
+    if given.number != numbers::GRANTED {
+        return given.number;
     }
-    monitor::judge(loaded.tables, history, levels, request)
+    loaded::judge(given.tables, history, levels, request)
 }
 
 // Judges the request at the front of the bytes; a granted one is recorded, and a granted read or step lowers its person's level.
@@ -107,11 +107,11 @@ pub extern "C" fn kweldabe_put(
         ≡ putBy (loadBook (now (book .entry))) (state (now (history .entry)) (now (levels .entry))) (now (request .entry)))
         ⌝ }
 {
-    let loaded = monitor::load(book);
-    if loaded.number != numbers::GRANTED {
-        return loaded.number;
+    let given = monitor::load(book);
+    if given.number != numbers::GRANTED {
+        return given.number;
     }
-    monitor::put(loaded.tables, history, levels, request)
+    loaded::put(given.tables, history, levels, request)
 }
 
 // Puts the requests of the bytes one after another, and writes one answer byte for each.
@@ -128,11 +128,11 @@ pub extern "C" fn kweldabe_run(
         (now (answers .entry)) r (state (now (history .exit)) (now (levels .exit))) (now (answers .exit))
         ⌝ }
 {
-    let loaded = monitor::load(book);
-    if loaded.number != numbers::GRANTED {
-        return pack_run(loaded.number, 0, 0);
+    let given = monitor::load(book);
+    if given.number != numbers::GRANTED {
+        return pack_run(given.number, 0, 0);
     }
-    let ran = monitor::run(loaded.tables, history, levels, requests, answers);
+    let ran = loaded::run(given.tables, history, levels, requests, answers);
     pack_run(ran.number, ran.granted, ran.refused)
 }
 
@@ -144,11 +144,11 @@ pub extern "C" fn kweldabe_standing(book: &[u8], history: &[u8], levels: &[u8], 
         ≡ standingPacked (standingBy (loadBook (now (book .entry))) (state (now (history .entry)) (now (levels .entry))) person)
         ⌝ }
 {
-    let loaded = monitor::load(book);
-    if loaded.number != numbers::GRANTED {
-        return pack_standing(loaded.number, 0, 0, 0);
+    let given = monitor::load(book);
+    if given.number != numbers::GRANTED {
+        return pack_standing(given.number, 0, 0, 0);
     }
-    let found = monitor::standing(loaded.tables, history, levels, person);
+    let found = loaded::standing(given.tables, history, levels, person);
     let level = found.level;
     pack_standing(found.number, level.0, found.rights, found.firms)
 }

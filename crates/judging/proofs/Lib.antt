@@ -1,1 +1,3 @@
 pub mod JudgingLaws
+pub mod Deciding
+pub mod AskingLaws

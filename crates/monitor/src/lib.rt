@@ -1,7 +1,6 @@
 // The calls of the access monitor (document 01, "Requests and calls", and document 02). Each ends, on every input, in a published number; a
 // call whose own number is not 0 changes no byte lent to it.
 ghost use mathlib.Core.Path.{_≡_};
-ghost use Prim.Native.Nat.{_<_};
 ghost use Rattle.policy.specs.Rulebook.{loadBook};
 ghost use Rattle.policy.specs.Checks.{ladder};
 ghost use Rattle.policy.specs.Calls.{
@@ -14,8 +13,7 @@ ghost use Rattle.policy.specs.Calls.{
   putState,
   standing as standingOf,
 };
-ghost use Rattle.monitor.specs.Refused.{noStanding, noRun, RunIs};
-use level::Level;
+ghost use Rattle.loaded.specs.Refused.{RunIs};
 use policy::Loaded;
 use policy::Ran;
 use policy::Standing;
@@ -63,9 +61,7 @@ pub fn blank(t: Tables, h: &mut [u8], levels: &mut [u8]) -> u8
     if number != numbers::GRANTED {
         return number;
     }
-    history::blank(h);
-    levels::set_first(t, levels);
-    numbers::GRANTED
+    loaded::blank(t, h, levels)
 }
 
 // Judges the request at the front of the bytes, and records nothing.
@@ -76,8 +72,7 @@ pub fn judge(t: Tables, h: &[u8], levels: &[u8], request: &[u8]) -> u8
     if number != numbers::GRANTED {
         return number;
     }
-    let words = packing::pack(t);
-    judging::judge_bytes(&words, h, levels, request)
+    loaded::judge(t, h, levels, request)
 }
 
 // Judges the request at the front of the bytes; a granted one is recorded, and a granted read or step lowers its person's level.
@@ -91,20 +86,7 @@ pub fn put(t: Tables, h: &mut [u8], levels: &mut [u8], request: &[u8]) -> u8
     if number != numbers::GRANTED {
         return number;
     }
-    let words = packing::pack(t);
-    let turn = running::put_next(&words, h, levels, request);
-    turn.number
-}
-
-// A refused run.
-fn no_run(number: u8) -> Ran
-    ensures { λ r. ⌜ r ≡ noRun number ⌝ }
-{
-    Ran {
-        number: number,
-        granted: 0,
-        refused: 0,
-    }
+    loaded::put(t, h, levels, request)
 }
 
 // Puts the requests of the bytes one after another, and writes one answer byte for each.
@@ -116,30 +98,9 @@ pub fn run(t: Tables, h: &mut [u8], levels: &mut [u8], requests: &[u8], answers:
 {
     let number = checked(t, h, levels);
     if number != numbers::GRANTED {
-        return no_run(number);
+        return loaded::no_run(number);
     }
-    if answers.len() < running::answers_due(requests) {
-        return no_run(numbers::TOO_FEW_ANSWERS);
-    }
-    let words = packing::pack(t);
-    let counts = running::run_ready(&words, h, levels, requests, answers);
-    Ran {
-        number: numbers::GRANTED,
-        granted: counts.granted,
-        refused: counts.refused,
-    }
-}
-
-// A refused standing.
-fn no_standing(number: u8) -> Standing
-    ensures { λ r. ⌜ r ≡ noStanding number ⌝ }
-{
-    Standing {
-        number,
-        level: Level::LOWEST,
-        rights: 0,
-        firms: 0,
-    }
+    loaded::run(t, h, levels, requests, answers)
 }
 
 // A person's stored level, the number of rights used and the number of firms opened.
@@ -148,18 +109,7 @@ pub fn standing(t: Tables, h: &[u8], levels: &[u8], person: u8) -> Standing
 {
     let number = checked(t, h, levels);
     if number != numbers::GRANTED {
-        return no_standing(number);
+        return loaded::no_standing(number);
     }
-    let words = packing::pack(t);
-    let s = bits::wide(person);
-    if !packed::is_person(&words, s) {
-        return no_standing(numbers::UNDECLARED);
-    }
-    let did = past::past_of(&words, h, s, past::steps::stepped_by(h, s));
-    Standing {
-        number: numbers::GRANTED,
-        level: levels::entry(levels, s),
-        rights: bits::count64(did.rights),
-        firms: bits::count64(did.firms),
-    }
+    loaded::standing(t, h, levels, person)
 }

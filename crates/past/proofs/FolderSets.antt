@@ -1,5 +1,5 @@
 -- The two words of a set of folders: each is the set of 64 of them, by their numbers from the first on.
-use Prim.Native.Nat.{ℕ, _+_}
+use Prim.Native.Nat.{ℕ, _+_, _<_}
 use native.Mathlib.Omega.{arith}
 use mathlib.Core.Path.{_≡_, sym, ap, _∙_}
 use mathlib.Core.Bool.{Bool}
@@ -24,3 +24,8 @@ module _ (p : ℕ → Bool) where
   pub folders-high : {set : Folders} → set ≡ foldersOf p → set .high ≡ maskBelow 64 (λ i. p (64 + i))
   unfolding foldersOf
   folders-high e = ap (λ (f : Folders). f .high) e
+
+pub folders-ext : (p q : ℕ → Bool) → ((o : ℕ) → o < 128 → p o ≡ q o) → foldersOf p ≡ foldersOf q
+unfolding foldersOf
+folders-ext p q same =
+    rw (mask-ext 64 p q (λ i l. same i (omega arith)), mask-ext 64 (λ i. p (64 + i)) (λ i. q (64 + i)) (λ i l. same (64 + i) (omega arith)))

@@ -1,13 +1,13 @@
 -- The current level by sets of folders: the level after 128 folders is the level after the first 64 and then after the next 64. The folders
 -- read, whose bits are the word at byte 16 * s and the word after it, can come first and then the folders stepped on, since the meet of all
 -- is the same.
-use Prim.Native.Nat.{ℕ, _+_, _*_, _%_, _<_}
+use Prim.Native.Nat.{ℕ, _+_, _*_, _<_}
 use native.Mathlib.Omega.{arith}
 use mathlib.Core.Path.{_≡_, refl, sym, ap, ap₂, _∙_}
 use mathlib.Core.Bool.{Bool, true, false, cond, _&&_, and-or-distrib-left}
 use mathlib.Core.List.{List}
 use lib.ListN.{getD}
-use Rattle.bits.specs.Bits.{bit, foldSet}
+use Rattle.bits.specs.Bits.{foldSet}
 use Rattle.bits.specs.Bounded.{foldBelow}
 use Rattle.bits.proofs.Masks.{bit-mask-below, mask-ext}
 use Rattle.bits.proofs.SetFolds.{fold-ext, fold-two}
@@ -19,7 +19,7 @@ use Rattle.policy.specs.History.{bitAt}
 use Rattle.policy.specs.Request.{index, setOf}
 use Rattle.policy.specs.Rules.{loweredBy, currentLevel}
 use Rattle.history.specs.Words.{wordAt}
-use Rattle.history.proofs.WordLaws.{word-bit, word-mask}
+use Rattle.history.proofs.WordLaws.{word-mask}
 use Rattle.past.specs.Folders.{foldersOf}
 use Rattle.past.specs.Turns.{readAt, steppedAt}
 use Rattle.past.specs.Levels.{levelAfter, levelOver, levelBySet, levelBy}
@@ -31,15 +31,6 @@ nested true true x y = refl
 nested true false x y = refl
 nested false true x y = refl
 nested false false x y = refl
-
--- ---- one word
-
--- bit i of the word at a place, which was read, is the history's bit of an index
-pub word-place : (h : List ℕ) (at i place : ℕ) {word : ℕ} {b : Bool} → ((k : ℕ) → getD h k 0 < 256) → i < 64 → word ≡ wordAt h at
-    → b ≡ bit word (i % 64) → 8 * at + i ≡ place → b ≡ bitAt h place
-word-place h at i place small l read test same =
-    let own : i % 64 ≡ i = omega arith in
-    test ∙ rw (own, read) (word-bit h at i small l ∙ ap (bitAt h) same)
 
 -- ---- the level over two words
 

@@ -1,65 +1,42 @@
--- What a history's bytes say of a declared person: a request is in the set exactly where its bit is set and the entry of its folder, or of
--- the person started, is marked declared, since the history has a place for every declared request. And what given tables say of a
--- declared folder: its firm and its kind are in range.
-use Prim.Native.Nat.{ℕ, _+_, _*_, _/_, _<_}
+-- What a history's bytes say of a declared person: a request is in the set exactly where its bit is set and its folder, or the person
+-- started, is declared, since the history has a place for every declared request. And what given tables say of a declared folder: its firm
+-- and its kind are in range.
+use Prim.Native.Nat.{ℕ, _+_, _*_, _^_, _<_}
 use native.Mathlib.Omega.{arith}
-use mathlib.Core.Path.{_≡_, refl, sym, ap₂, _∙_}
-use mathlib.Core.Bool.{Bool, true, false, not, _&&_, _||_, and-true, and-false, and-comm, and-or-distrib-left}
+use mathlib.Core.Path.{_≡_, refl, sym, ap, ap₂, _∙_}
+use mathlib.Core.Bool.{Bool, true, false, not, Bool·not-not, _&&_, _||_, and-true, and-false, and-comm, and-or-distrib-left, or-comm}
 use mathlib.Core.List.{List}
-use lib.Dec.{eqb, leb, ltb}
+use lib.Bits.{bitAnd, bitOr, and-lt}
+use lib.Dec.{eqb}
 use lib.ListN.{getD}
-use borrow.Author.Tests.{lt-ltb, ltb-true, le-leb, leb-true, not-false, eqb-true}
-use Rattle.bits.specs.Bounded.{anyBelow, allBelow}
-use Rattle.bits.proofs.Booleans.{and-left, and-right}
-use Rattle.bits.proofs.BitLaws.{bit-zero}
-use Rattle.bits.proofs.Bounds.{all-at, any-ext, none-at, none-any}
-use Rattle.policy.specs.declared.Folder.{Folder}
+use borrow.Author.Tests.{lt-ltb, le-leb}
+use Rattle.bits.specs.Bits.{bit, maskBelow}
+use Rattle.bits.specs.Bounded.{anyBelow}
+use Rattle.bits.proofs.Booleans.{and-both}
+use Rattle.bits.proofs.BitLaws.{bit-and}
+use Rattle.bits.proofs.Bounds.{any-ext, none-any}
+use Rattle.bits.proofs.Masks.{mask-lt, bit-mask-below, empty-none, mask-ext, mask-or}
 use Rattle.policy.specs.declared.Tables.{Tables}
-use Rattle.policy.specs.Tables.{firmAt, personAt, folderAt, roleAt, enables, firmDeclared, personDeclared, folderDeclared}
-use Rattle.policy.specs.Rulebook.{given, firmGiven, personGiven, folderGiven, roleGiven, hasCircle, hasLoose}
+use Rattle.policy.specs.Tables.{folderAt, personDeclared, folderDeclared}
+use Rattle.policy.specs.Rulebook.{given}
 use Rattle.policy.specs.History.{bitAt}
 use Rattle.policy.specs.Request.{Request, read, write, start, step, index, hasPlace, setOf}
-use Rattle.policy.specs.Rules.{declared, did, stepped, observed}
+use Rattle.policy.specs.Rules.{declared, did, stepped, accessed, observed}
+use Rattle.policy.proofs.GivenEntries.{folder-firm, folder-kind}
 use Rattle.policy.proofs.Requests.{declared-place}
-use Rattle.past.specs.Turns.{readAt, writtenAt, stepAt, steppedAt, startAt, startByteAt, started}
+use Rattle.history.specs.Words.{wordAt}
+use Rattle.history.proofs.WordLaws.{word-bit, word-mask}
+use Rattle.past.specs.Turns.{EntryInBounds, readAt, writtenAt, stepAt, steppedAt, touchedAt, started}
 
 -- ---- given tables
 
--- the check of the folders is the fourth of eight
-fourth : (a b c d e f g h : Bool) → a && b && c && d && e && f && g && h ≡ true → d ≡ true
-fourth a b c d e f g h w =
-    and-right (a && b && c) d
-    (and-left (a && b && c && d) e
-    (and-left (a && b && c && d && e) f
-    (and-left (a && b && c && d && e && f) g (and-left (a && b && c && d && e && f && g) h w))))
+marked-declared : (t : Tables) (o : ℕ) → o < 128 → folderAt t o .declared ≡ true → folderDeclared t o ≡ true
+unfolding folderDeclared
+marked-declared t o l d = and-both _ _ (lt-ltb o 128 l) d
 
-folder-given : (t : Tables) → given t ≡ true → (o : ℕ) → o < 128 → folderGiven t (folderAt t o) ≡ true
-unfolding given
-folder-given t g o l =
-    all-at 128 (λ o. folderGiven t (folderAt t o))
-    (fourth (leb (t .mask) 15) (allBelow 64 (λ f. firmGiven (firmAt t f))) (allBelow 64 (λ s. personGiven (personAt t s))) _
-    (allBelow 32 (λ k. roleGiven (roleAt t k))) (allBelow 16 (λ p. not (enables t p 0))) (not (hasCircle t)) (not (hasLoose t)) g)
-    o l
-
-in-range : (t : Tables) → given t ≡ true → (o : ℕ) → o < 128 → folderAt t o .declared ≡ true
-    → firmDeclared t (folderAt t o .firm) && leb (folderAt t o .kind) 15 ≡ true
-unfolding folderGiven
-in-range t g o l d = rw d at (folder-given t g o l)
-
-pub firm-below : (t : Tables) → given t ≡ true → (o : ℕ) → o < 128 → folderAt t o .declared ≡ true → folderAt t o .firm < 64
-unfolding firmDeclared
-firm-below t g o l d =
-    let f = folderAt t o .firm in
-    ltb-true f 64 (and-left (ltb f 64) _ (and-left (ltb f 64 && firmAt t f .declared) _ (in-range t g o l d)))
-
-pub kind-below : (t : Tables) → given t ≡ true → (o : ℕ) → o < 128 → folderAt t o .declared ≡ true → folderAt t o .kind < 16
-kind-below t g o l d =
-    let k = leb-true (folderAt t o .kind) 15 (and-right (firmDeclared t (folderAt t o .firm)) _ (in-range t g o l d)) in omega arith
-
--- the same of an entry that was read
-pub entry-below : (t : Tables) → given t ≡ true → (o : ℕ) → o < 128 → {e : Folder} → e ≡ folderAt t o
-    → (e .declared ≡ true → e .firm < 64) × (e .declared ≡ true → e .kind < 16)
-entry-below t g o l entry = rw entry (firm-below t g o l, kind-below t g o l)
+pub entry-below : (t : Tables) → given t ≡ true → (o : ℕ) → o < 128 → EntryInBounds (folderAt t o)
+entry-below t g o l =
+    record { firm = λ d. folder-firm t g o (marked-declared t o l d); kind = λ d. folder-kind t g o (marked-declared t o l d) }
 
 -- ---- requests in the set
 
@@ -90,9 +67,13 @@ module _ (t : Tables) (h : List ℕ) (s : ℕ) (person : personDeclared t s ≡ 
   unfolding declared folderDeclared stepAt
   did-step p o m l = did-bit t h (step s p o) ∙ rw (person, le-leb p 15 (omega arith), lt-ltb o 128 l)
 
-  pub did-start : (u : ℕ) → u < 64 → did t (setOf h) (start s u) ≡ startAt t h s u
-  unfolding declared personDeclared startAt
-  did-start u l = did-bit t h (start s u) ∙ rw (person, lt-ltb u 64 l)
+  -- a start of one of the declared persons
+  pub did-start : (u : ℕ) {persons : ℕ} → u < 64 → persons ≡ maskBelow 64 (personDeclared t)
+      → did t (setOf h) (start s u) ≡ bit persons u && bitAt h (index (start s u))
+  unfolding declared
+  did-start u l found =
+      did-bit t h (start s u)
+      ∙ rw (person, found) (ap (λ (b : Bool). b && bitAt h (index (start s u))) (sym (bit-mask-below 64 (personDeclared t) u l)))
 
   pub did-stepped : (o : ℕ) → o < 128 → stepped t (setOf h) s o ≡ folderAt t o .declared && steppedAt h s o
   unfolding stepped steppedAt
@@ -108,17 +89,58 @@ module _ (t : Tables) (h : List ℕ) (s : ℕ) (person : personDeclared t s ≡ 
   unfolding observed
   did-observe o l = ap₂ _||_ (did-read o l) (did-stepped o l) ∙ sym (and-or-distrib-left (folderAt t o .declared) _ _)
 
+  -- ---- accesses
+
+  -- an undeclared folder counts as not accessed
+  pub undeclared : (o : ℕ) → o < 128 → folderAt t o .declared ≡ false → accessed t (setOf h) s o ≡ false
+  unfolding accessed
+  undeclared o l d = rw (did-read o l, did-write o l, did-stepped o l, d)
+
+  -- a declared folder was accessed exactly where its bits say so
+  pub touched-access : (o : ℕ) → o < 128 → folderAt t o .declared ≡ true → accessed t (setOf h) s o ≡ touchedAt h s o
+  unfolding accessed touchedAt
+  touched-access o l d = rw (did-read o l, did-write o l, did-stepped o l, d)
+
+-- ---- words
+
+-- the word of a person's reads of 64 folders, and that of the writes
+pub word-reads : (h : List ℕ) (s first at : ℕ) → ((i : ℕ) → getD h i 0 < 256) → 8 * at ≡ 128 * s + first
+    → wordAt h at ≡ maskBelow 64 (λ i. readAt h s (first + i))
+unfolding readAt index
+word-reads h s first at small place =
+    word-mask h at small
+    ∙ mask-ext 64 _ _ (λ i l. let same : 8 * at + i ≡ 128 * s + (first + i) = omega (arith, place) in ap (bitAt h) same)
+
+pub word-writes : (h : List ℕ) (s first at : ℕ) → ((i : ℕ) → getD h i 0 < 256) → 8 * at ≡ 8192 + 128 * s + first
+    → wordAt h at ≡ maskBelow 64 (λ i. writtenAt h s (first + i))
+unfolding writtenAt index
+word-writes h s first at small place =
+    word-mask h at small
+    ∙ mask-ext 64 _ _ (λ i l. let same : 8 * at + i ≡ 8192 + 128 * s + (first + i) = omega (arith, place) in ap (bitAt h) same)
+
+-- those that were read, written or stepped on
+pub touched-word : (h : List ℕ) (s first : ℕ) {reads writes steps : ℕ} → reads ≡ maskBelow 64 (λ i. readAt h s (first + i))
+    → writes ≡ maskBelow 64 (λ i. writtenAt h s (first + i)) → steps ≡ maskBelow 64 (λ i. steppedAt h s (first + i))
+    → bitOr (bitOr reads writes) steps ≡ maskBelow 64 (λ i. touchedAt h s (first + i))
+unfolding touchedAt
+touched-word h s first r w p =
+    ap₂ bitOr (ap₂ bitOr r w ∙ mask-or 64 _ _) p ∙ mask-or 64 _ _
+    ∙ mask-ext 64 _ _ (λ i l.
+    or-comm (steppedAt h s (first + i)) (writtenAt h s (first + i) || readAt h s (first + i))
+    ∙ ap (λ (b : Bool). b || steppedAt h s (first + i)) (or-comm (writtenAt h s (first + i)) (readAt h s (first + i))))
+
 -- ---- starts
 
-zero-byte : (h : List ℕ) (s k : ℕ) → startByteAt h s k ≡ false → getD h (2048 + 8 * s + k) 0 ≡ 0
-unfolding startByteAt
-zero-byte h s k e = eqb-true _ 0 (not-false (eqb (getD h (2048 + 8 * s + k) 0) 0) e)
-
--- where the eight bytes of a person's starts are zero, the person started no one
-pub no-starts : (t : Tables) (h : List ℕ) (s : ℕ) → anyBelow 8 (startByteAt h s) ≡ false → started t h s ≡ false
-unfolding started startAt bitAt index
-no-starts t h s e =
-    none-any 64 (startAt t h s) (λ u l.
-    let byte : (16384 + 64 * s + u) / 8 ≡ 2048 + 8 * s + u / 8 = omega arith in
-    let zero = zero-byte h s (u / 8) (none-at 8 (startByteAt h s) e (u / 8) (omega arith)) in
-    rw (byte, zero, bit-zero) (and-false (personAt t u .declared)))
+-- the word of a person's starts has one of a set of persons exactly where the person started one of them
+pub starts-word : (h : List ℕ) (s persons : ℕ) → ((i : ℕ) → getD h i 0 < 256) → persons < 2 ^ 64
+    → not (eqb (bitAnd (wordAt h (2048 + 8 * s)) persons) 0) ≡ started persons h s
+unfolding started index
+starts-word h s persons small fits =
+    let word = wordAt h (2048 + 8 * s) in
+    let below : word < 2 ^ 64 = rw (word-mask h (2048 + 8 * s) small) (mask-lt 64 _) in
+    ap not (empty-none 64 (bitAnd word persons) (and-lt 64 word persons below fits))
+    ∙ Bool·not-not _
+    ∙ any-ext 64 (bit (bitAnd word persons)) _ (λ u l.
+    let place : 8 * (2048 + 8 * s) + u ≡ 16384 + 64 * s + u = omega arith in
+    bit-and word persons u ∙ and-comm (bit word u) (bit persons u)
+    ∙ ap (λ (b : Bool). bit persons u && b) (word-bit h (2048 + 8 * s) u small l ∙ ap (bitAt h) place))

@@ -1,13 +1,13 @@
 -- The steps that a person applied to a folder, one after another: the bit of a step, shifted up to the step's number, is put in beside
 -- those of the steps below it. All are shifted up by the number of the person's bit in its byte, where a byte's bit stands after all
--- others are masked away. The set is empty exactly where the person did not step on the folder.
+-- others are masked away.
 use Prim.Native.Nat.{ℕ, suc, _+_, _-_, _*_, _/_, _%_, _^_, _<_}
 use native.Mathlib.Nat.{mul-assoc, mul-comm, pow-suc, add-zero, zero-mul, one-mul, mod-eq-of-lt, lt-of-lt-of-le}
 use native.Mathlib.Numerals.{one-add}
 use native.Mathlib.Omega.{arith}
 use mathlib.Core.Path.{_≡_, refl, sym, ap, ap₂, _∙_}
 use mathlib.Core.Logic.{⊎-elim}
-use mathlib.Core.Bool.{Bool, true, false, cond, not}
+use mathlib.Core.Bool.{Bool, true, false, cond}
 use mathlib.Core.List.{List}
 use lib.Bits.{bitAnd, bitOr, or-zero-l, or-zero-r, or-block, and-mask, and-high}
 use lib.Dec.{eqb}
@@ -16,11 +16,10 @@ use lib.Pow.{pow-pos, pow-mono, shl-lt, shl-shr}
 use borrow.Author.Tests.{eqb-true, eqb-false}
 use Rattle.bits.specs.Bits.{bit, withBit, maskBelow}
 use Rattle.bits.proofs.Booleans.{decide}
-use Rattle.bits.proofs.Bounds.{any-ext}
-use Rattle.bits.proofs.Masks.{mask-start, mask-step, mask-lt, bit-mask-below, empty-none}
+use Rattle.bits.proofs.Masks.{mask-start, mask-step, mask-lt}
 use Rattle.policy.specs.History.{bitAt}
 use Rattle.policy.specs.Request.{index}
-use Rattle.past.specs.Turns.{stepAt, steppedAt}
+use Rattle.past.specs.Turns.{stepAt}
 
 -- ---- numbers
 
@@ -116,10 +115,3 @@ module _ (h : List ℕ) (s o : ℕ) where
 
   pub steps-fit : (p : ℕ) {steps : ℕ} → p ≡ 16 → steps ≡ stepsBelow p → steps / 2 ^ bitAnd s 7 < 65536
   steps-fit p all whole = rw (all-steps p all whole) (mask-lt 16 (stepAt h s o))
-
--- the set of the steps is empty where the person did not step on the folder
-pub steps-none : (h : List ℕ) (s o : ℕ) → eqb (maskBelow 16 (stepAt h s o)) 0 ≡ not (steppedAt h s o)
-unfolding steppedAt
-steps-none h s o =
-    empty-none 16 (maskBelow 16 (stepAt h s o)) (mask-lt 16 (stepAt h s o))
-    ∙ ap not (any-ext 16 (bit (maskBelow 16 (stepAt h s o))) (stepAt h s o) (bit-mask-below 16 (stepAt h s o)))

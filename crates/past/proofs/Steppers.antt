@@ -2,19 +2,19 @@
 -- applied it, and the union of the words of the steps below p is the set of those who applied one of these.
 use Prim.Native.Nat.{ℕ, _+_, _*_, _<_}
 use native.Mathlib.Omega.{arith}
-use mathlib.Core.Path.{_≡_, sym, ap, ap₂, _∙_}
+use mathlib.Core.Path.{_≡_, ap, _∙_}
 use mathlib.Core.List.{List}
 use lib.Bits.{bitOr}
 use lib.ListN.{getD}
 use Rattle.bits.specs.Bits.{maskBelow}
 use Rattle.bits.specs.Bounded.{anyBelow}
-use Rattle.bits.proofs.Bounds.{any-start, any-more}
-use Rattle.bits.proofs.Masks.{mask-ext, mask-none, mask-or}
+use Rattle.bits.proofs.Masks.{mask-ext}
 use Rattle.policy.specs.History.{bitAt}
 use Rattle.policy.specs.Request.{index}
 use Rattle.history.specs.Words.{wordAt}
 use Rattle.history.proofs.WordLaws.{word-mask}
 use Rattle.past.specs.Turns.{stepAt}
+use Rattle.past.proofs.Joined.{join-none, join-more}
 
 module _ (h : List ℕ) (o : ℕ) where
   -- the persons who applied one of the steps below p
@@ -22,7 +22,7 @@ module _ (h : List ℕ) (o : ℕ) where
   steppersBelow p = maskBelow 64 (λ s. anyBelow p (stepAt h s o))
 
   -- the persons who applied step p
-  step-word : ((i : ℕ) → getD h i 0 < 256) → (p : ℕ) → wordAt h (2560 + 128 * o + 8 * p) ≡ maskBelow 64 (λ s. stepAt h s o p)
+  pub step-word : ((i : ℕ) → getD h i 0 < 256) → (p : ℕ) → wordAt h (2560 + 128 * o + 8 * p) ≡ maskBelow 64 (λ s. stepAt h s o p)
   unfolding stepAt index
   step-word small p =
       word-mask h (2560 + 128 * o + 8 * p) small
@@ -31,12 +31,10 @@ module _ (h : List ℕ) (o : ℕ) where
 
   pub no-steppers : 0 ≡ steppersBelow 0
   unfolding steppersBelow
-  no-steppers = sym (mask-none 64 _ (λ s l. any-start (stepAt h s o)))
+  no-steppers = join-none 64 (λ s. stepAt h s o)
 
   -- one step more
   pub more-steppers : ((i : ℕ) → getD h i 0 < 256) → (p : ℕ) {set word : ℕ} → set ≡ steppersBelow p
       → word ≡ wordAt h (2560 + 128 * o + 8 * p) → bitOr set word ≡ steppersBelow (p + 1)
   unfolding steppersBelow
-  more-steppers small p before found =
-      ap₂ bitOr before (found ∙ step-word small p) ∙ mask-or 64 (λ s. anyBelow p (stepAt h s o)) (λ s. stepAt h s o p)
-      ∙ mask-ext 64 _ _ (λ s l. sym (any-more p (stepAt h s o)))
+  more-steppers small p before found = join-more 64 (λ s. stepAt h s o) p before (found ∙ step-word small p)

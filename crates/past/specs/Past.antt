@@ -6,7 +6,7 @@ use Rattle.bits.specs.Bits.{maskBelow}
 use Rattle.policy.specs.declared.Tables.{Tables}
 use Rattle.bits.specs.Bounded.{anyBelow}
 use Rattle.policy.specs.Tables.{folderAt}
-use Rattle.policy.specs.Request.{Request, read, write, step}
+use Rattle.policy.specs.Request.{Request, read, write}
 use Rattle.policy.specs.Rules.{right, did, accessed, counts, used, opened, counted}
 use Rattle.past.specs.declared.Past.{Past}
 
@@ -19,12 +19,9 @@ pastOf t H s =
       counted = maskBelow 64 (counted t H s);
     }
 
--- person s used right x on folder o
+-- person s used right x by a read of folder o or a write in it
 unfoldable pub usedOn : Tables → (Request → Bool) → ℕ → ℕ → ℕ → Bool
-usedOn t H s x o =
-    did t H (read s o) && eqb (right t (read s o)) x
-    || did t H (write s o) && eqb (right t (write s o)) x
-    || anyBelow 16 (λ p. did t H (step s p o) && eqb (right t (step s p o)) x)
+usedOn t H s x o = did t H (read s o) && eqb (right t (read s o)) x || did t H (write s o) && eqb (right t (write s o)) x
 
 -- folder o, of which p holds, is of firm f
 unfoldable pub firmOn : Tables → (ℕ → Bool) → ℕ → ℕ → Bool
@@ -34,7 +31,7 @@ firmOn t p f o = p o && eqb (folderAt t o .firm) f
 unfoldable pub firmsBelow : Tables → (ℕ → Bool) → ℕ → ℕ
 firmsBelow t p n = maskBelow 64 (λ f. anyBelow n (firmOn t p f))
 
--- what person s did on the folders below n
+-- what person s did on the folders below n, without the rights of steps
 unfoldable pub pastBelow : Tables → (Request → Bool) → ℕ → ℕ → Past
 pastBelow t H s n =
     record {

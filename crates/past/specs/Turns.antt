@@ -1,16 +1,15 @@
--- The turns of the pass over a history's bytes: what one folder adds to what a person did, and what one more person started.
+-- The turns of the pass over a history's bytes: what one folder adds to what a person did, and what the starts and the steps add.
 use Prim.Native.Nat.{ℕ, _+_, _*_, _^_, _<_}
 use mathlib.Core.Path.{_≡_}
 use mathlib.Core.Bool.{Bool, true, cond, not, _&&_, _||_}
 use mathlib.Core.List.{List}
 use lib.Bits.{bitOr}
-use lib.Dec.{eqb}
-use lib.ListN.{length, getD}
-use Rattle.bits.specs.Bits.{withBit, maskBelow}
+use lib.ListN.{length}
+use Rattle.bits.specs.Bits.{bit, withBit, foldSet}
 use Rattle.bits.specs.Bounded.{anyBelow}
 use Rattle.policy.specs.declared.Folder.{Folder}
 use Rattle.policy.specs.declared.Tables.{Tables}
-use Rattle.policy.specs.Tables.{personAt}
+use Rattle.policy.specs.Tables.{folderAt}
 use Rattle.policy.specs.History.{historyBytes, bitAt}
 use Rattle.policy.specs.Request.{read, write, start, step, index}
 use Rattle.past.specs.declared.Past.{Past}
@@ -21,9 +20,8 @@ pub record InBounds (h : List ℕ) (s o : ℕ) : Type 0 where
   pub person : s < 64
   pub folder : o < 128
 
--- besides, a declared folder's firm and kind are in range
-pub record FolderInBounds (e : Folder) (h : List ℕ) (s o : ℕ) : Type 0 where
-  pub bounds : InBounds h s o
+-- a declared folder's firm and kind are in range
+pub record EntryInBounds (e : Folder) : Type 0 where
   pub firm : e .declared ≡ true → e .firm < 64
   pub kind : e .declared ≡ true → e .kind < 16
 
@@ -44,43 +42,37 @@ stepAt h s o p = bitAt h (index (step s p o))
 unfoldable pub steppedAt : List ℕ → ℕ → ℕ → Bool
 steppedAt h s o = anyBelow 16 (stepAt h s o)
 
--- a person read a folder, wrote in it or stepped on it
-unfoldable pub isTouched : Bool → Bool → Bool → Bool
-isTouched wasRead wasWritten wasSteppedOn = wasRead || wasWritten || wasSteppedOn
+-- person s read folder o, wrote in it or stepped on it
+unfoldable pub touchedAt : List ℕ → ℕ → ℕ → Bool
+touchedAt h s o = readAt h s o || writtenAt h s o || steppedAt h s o
 
--- the rights that a read, a write and a set of steps use on a folder of a kind
-unfoldable pub rightsOf : Bool → Bool → ℕ → ℕ → ℕ
-rightsOf wasRead wasWritten steps kind = withBitIf wasWritten (withBitIf wasRead (steps * 2 ^ 48) kind) (16 + kind)
-
--- the rights that the bits of folder o say that person s used
-unfoldable pub rightsOn : Folder → List ℕ → ℕ → ℕ → ℕ
-rightsOn e h s o =
-    rightsOf (readAt h s o) (writtenAt h s o) (maskBelow 16 (stepAt h s o)) (e .kind)
-
--- what the person did after folder o, whose entry is e and which the person touched
-unfoldable pub pastWith : Folder → List ℕ → ℕ → ℕ → Past → Past
-pastWith e h s o before =
+-- what the person did after a folder whose entry is e and which was read and written or not, if it is declared: without the rights of steps
+unfoldable pub pastWith : Folder → Bool → Bool → Past → Past
+pastWith e wasRead wasWritten before =
     cond (e .declared)
     (record {
-      rights = bitOr (before .rights) (rightsOn e h s o);
+      rights = withBitIf wasWritten (withBitIf wasRead (before .rights) (e .kind)) (16 + e .kind);
       firms = withBit (before .firms) (e .firm);
       counted = withBitIf (not (e .public)) (before .counted) (e .firm);
     })
     before
 
--- what the person did after folder o, whose entry is e
-unfoldable pub pastAfter : Folder → List ℕ → ℕ → ℕ → Past → Past
-pastAfter e h s o before =
-    cond (isTouched (readAt h s o) (writtenAt h s o) (steppedAt h s o)) (pastWith e h s o before) before
+-- the same of folder o of the tables, with its bits in the history
+unfoldable pub pastAfter : Tables → List ℕ → ℕ → ℕ → Past → Past
+pastAfter t h s o = pastWith (folderAt t o) (readAt h s o) (writtenAt h s o)
 
--- the history has the bit of a start of person u by person s, and u is declared
-unfoldable pub startAt : Tables → List ℕ → ℕ → ℕ → Bool
-startAt t h s u = personAt t u .declared && bitAt h (index (start s u))
+-- the same of folder first + i, with bit i of two words
+unfoldable pub pastTurn : Tables → ℕ → ℕ → ℕ → ℕ → Past → Past
+pastTurn t first reads writes i = pastWith (folderAt t (first + i)) (bit reads i) (bit writes i)
 
--- byte k of the eight that hold the starts by person s has a bit set
-unfoldable pub startByteAt : List ℕ → ℕ → ℕ → Bool
-startByteAt h s k = not (eqb (getD h (2048 + 8 * s + k) 0) 0)
+-- what the person did after those of the 64 folders from `first` on that are in a set
+unfoldable pub pastVisiting : Tables → ℕ → ℕ → ℕ → ℕ → Past → Past
+pastVisiting t first reads writes set before = foldSet 64 set (pastTurn t first reads writes) before
 
--- person s started a declared person
-unfoldable pub started : Tables → List ℕ → ℕ → Bool
-started t h s = anyBelow 64 (startAt t h s)
+-- person s started a person of a set
+unfoldable pub started : ℕ → List ℕ → ℕ → Bool
+started persons h s = anyBelow 64 (λ u. bit persons u && bitAt h (index (start s u)))
+
+-- the rights, with those of a set of steps and that of starts
+unfoldable pub rightsWith : ℕ → ℕ → Bool → ℕ
+rightsWith rights steps starts = withBitIf starts (bitOr rights (steps * 2 ^ 48)) 32

@@ -81,5 +81,6 @@ pub fn current_level(t: &Words, h: &[u8], s: usize) -> Level
     requires { ⌜ (length (now h) ≡ historyBytes) × (personDeclared (tablesOf (now t)) s ≡ true) ⌝ }
     ensures { λ r. ⌜ r .0 ≡ currentLevel (tablesOf (now (t .entry))) (setOf (now (h .entry))) s ⌝ }
 {
-    level_with(t, h, s, steps::stepped_by(h, s))
+    let steppers = steps::all_steppers(h);
+    level_with(t, h, s, steps::stepped_by(&steppers, s))
 }

@@ -1,29 +1,31 @@
-// What a person did, gathered in one pass over the declared folders: the rights used, the firms opened and the firms that the wall counts.
-// The current level is apart, in `levels`; both start from the folders on which the person stepped, which `steps` finds.
+// What a person did: the rights used, the firms opened and the firms that the wall counts. The pass visits the folders that the person
+// read, wrote in or stepped on, and no others.
+// What all persons did can be gathered at once: `steps` finds the persons who stepped on each folder, and `applied` those who applied each
+// step; both also tell what one person did. `wall` judges one access alone, and the current level is apart, in `levels`.
 // Each public function is called for a declared person, over tables that a load gives and a history of 18,944 bytes.
 // Indexes of bits (document 01, "History"), for person s: 128 * s + o for a read of folder o, 8192 more for a write,
 // 16384 + 64 * s + u for a start of person u, 20480 + 64 * (16 * o + p) + s for step p on folder o.
 // Rights: the folder's kind for a read, 16 + kind for a write, 32 for a start, 48 + p for step p.
 ghost use mathlib.Core.Path.{_≡_};
 ghost use mathlib.Core.Bool.{true};
-ghost use Prim.Native.Nat.{_+_, _*_, _%_, _≤_, _<_};
+ghost use Prim.Native.Nat.{_+_, _%_, _≤_, _<_};
 ghost use lib.ListN.{length};
 ghost use Rattle.bits.specs.Bits.{maskBelow};
-ghost use Rattle.bits.specs.Bounded.{anyBelow};
 ghost use Rattle.policy.specs.Tables.{personDeclared};
 ghost use Rattle.policy.specs.Rulebook.{given};
-ghost use Rattle.policy.specs.History.{historyBytes, bitAt};
+ghost use Rattle.policy.specs.History.{historyBytes};
 ghost use Rattle.policy.specs.Request.{setOf};
-ghost use Rattle.packed.specs.Packed.{tablesOf};
 ghost use Rattle.past.specs.Folders.{foldersOf};
+ghost use Rattle.past.specs.Gathering.{appliedAt};
 ghost use Rattle.past.specs.Past.{pastBelow, pastOf};
-ghost use Rattle.past.specs.Turns.{InBounds, FolderInBounds, readAt, writtenAt, stepAt, steppedAt};
-ghost use Rattle.past.specs.Turns.{isTouched, rightsOf, pastAfter, startByteAt, started};
-use packed::Words;
+ghost use Rattle.past.specs.Turns.{EntryInBounds, steppedAt, pastWith, pastVisiting, started, rightsWith};
 use policy::Folder;
+use policy::Tables;
 
+pub mod applied;
 pub mod levels;
 pub mod steps;
+pub mod wall;
 
 // A set of folders: bit i of `low` for folder i, and bit i of `high` for folder 64 + i.
 pub struct Folders {
@@ -39,147 +41,98 @@ pub struct Past {
     pub counted: u64,
 }
 
-// Whether the bit of index i is set. The history has this bit.
-fn bit_within(h: &[u8], i: usize) -> bool
-    requires { ⌜ (length (now h) ≡ historyBytes) × (i < 8 * historyBytes) ⌝ }
-    ensures { λ r. ⌜ r ≡ bitAt (now (h .entry)) i ⌝ }
+// The set of the declared persons.
+pub fn persons(t: Tables) -> u64
+    ensures { λ r. ⌜ r ≡ maskBelow 64 (personDeclared t) ⌝ }
 {
-    bits::bit8(h[i >> 3], i)
+    let mut set: u64 = 0;
+    for s in 0..64 {
+        set = bits::with_bit64_if(t.persons[s].declared, set, s);
+    }
+    set
 }
 
-// The rights that a read, a write and a set of steps use on a folder of a kind.
-fn rights_of(read: bool, wrote: bool, steps: u16, kind: usize) -> u64
-    requires { ⌜ kind < 16 ⌝ }
-    ensures { λ r. ⌜ r ≡ rightsOf read wrote steps kind ⌝ }
+// What a person did after a folder, whose entry is `folder` and which was read and written or not, if `before` is what the person did
+// before it: a declared folder adds the rights of the read and the write and its firm.
+fn past_with(folder: Folder, read: bool, wrote: bool, before: Past) -> Past
+    requires { ⌜ EntryInBounds folder ⌝ }
+    ensures { λ r. ⌜ r ≡ pastWith folder read wrote before ⌝ }
 {
-    let applied = (steps as u64) << 48;
-    bits::with_bit64_if(wrote, bits::with_bit64_if(read, applied, kind), 16 + kind)
-}
-
-// Whether a person read a folder, wrote in it or stepped on it.
-fn is_touched(seen: bool, changed: bool, stepped: bool) -> bool
-    ensures { λ r. ⌜ r ≡ isTouched seen changed stepped ⌝ }
-{
-    if seen {
-        return true;
-    }
-    if changed {
-        return true;
-    }
-    stepped
-}
-
-// The set of the steps that person s applied to folder o, where it is known whether the person stepped on it.
-fn steps_on(h: &[u8], s: usize, o: usize, stepped: bool) -> u16
-    requires { ⌜ InBounds (now h) s o × (stepped ≡ steppedAt (now h) s o) ⌝ }
-    ensures { λ r. ⌜ r ≡ maskBelow 16 (stepAt (now (h .entry)) s o) ⌝ }
-{
-    if stepped {
-        return steps::steps_of(h, s, o);
-    }
-    0
-}
-
-// What person s did up to folder o, whose entry is `folder` and which was read, written and stepped on or not, if `before` is what the
-// person did on the folders before it.
-fn past_after(
-    folder: Folder,
-    h: &[u8],
-    s: usize,
-    o: usize,
-    seen: bool,
-    changed: bool,
-    stepped: bool,
-    before: Past,
-) -> Past
-    requires { ⌜
-        FolderInBounds folder (now h) s o × (seen ≡ readAt (now h) s o) × (changed ≡ writtenAt (now h) s o)
-        × (stepped ≡ steppedAt (now h) s o)
-        ⌝ }
-    ensures { λ r. ⌜ r ≡ pastAfter folder (now (h .entry)) s o before ⌝ }
-{
-    if !is_touched(seen, changed, stepped) {
-        return before;
-    }
     if !folder.declared {
         return before;
     }
-    let steps = steps_on(h, s, o, stepped);
+    let kind = folder.kind as usize;
+    let firm = folder.firm as usize;
     Past {
-        rights: before.rights | rights_of(seen, changed, steps, folder.kind as usize),
-        firms: bits::with_bit64(before.firms, folder.firm as usize),
-        counted: bits::with_bit64_if(!folder.public, before.counted, folder.firm as usize),
+        rights: bits::with_bit64_if(
+            wrote,
+            bits::with_bit64_if(read, before.rights, kind),
+            16 + kind,
+        ),
+        firms: bits::with_bit64(before.firms, firm),
+        counted: bits::with_bit64_if(!folder.public, before.counted, firm),
     }
 }
 
-// What person s, who stepped on these of the 64 folders from `first` on, did up to the last of them, if `before` is what the person did on
-// the folders before them. Their reads are one word of the history, and their writes another.
-fn past_over(t: &Words, h: &[u8], s: usize, first: usize, stepped: u64, before: Past) -> Past
-    requires { ⌜
-        (length (now h) ≡ historyBytes) × (given (tablesOf (now t)) ≡ true) × (personDeclared (tablesOf (now t)) s ≡ true)
-        × (first % 8 ≡ 0) × (first + 64 ≤ 128) × (stepped ≡ maskBelow 64 (λ i. steppedAt (now h) s (first + i)))
-        × (before ≡ pastBelow (tablesOf (now t)) (setOf (now h)) s first)
-        ⌝ }
-    ensures { λ r. ⌜ r ≡ pastBelow (tablesOf (now (t .entry))) (setOf (now (h .entry))) s (first + 64) ⌝ }
+// What a person did after those of the 64 folders from `first` on that are in a set, if `before` is what the person did before them: bit i
+// of each word for folder first + i, whether it was read, was written and is in the set. Each turn takes the lowest folder out of the set.
+fn past_visiting(t: Tables, first: usize, read: u64, wrote: u64, set: u64, before: Past) -> Past
+    requires { ⌜ (given t ≡ true) × (first + 64 ≤ 128) ⌝ }
+    ensures { λ r. ⌜ r ≡ pastVisiting t first read wrote set before ⌝ }
 {
-    let read = history::word_at(h, 16 * s + (first >> 3));
-    let wrote = history::word_at(h, 1024 + 16 * s + (first >> 3));
     let mut past = before;
-    for i in 0..64 {
-        let o = first + i;
-        past = past_after(
-            packed::folder(t, o),
-            h,
-            s,
-            o,
-            bits::bit64(read, i),
-            bits::bit64(wrote, i),
-            bits::bit64(stepped, i),
-            past,
-        );
+    let mut rest = set;
+    while rest != 0 {
+        let i = bits::lowest64(rest);
+        let folder = t.folders[first + i];
+        past = past_with(folder, bits::bit64(read, i), bits::bit64(wrote, i), past);
+        rest = bits::without_lowest64(rest);
     }
     past
 }
 
-// Whether a byte that holds starts by person s has a bit set.
-fn any_start(h: &[u8], s: usize) -> bool
-    requires { ⌜ (length (now h) ≡ historyBytes) × (s < 64) ⌝ }
-    ensures { λ r. ⌜ r ≡ anyBelow 8 (startByteAt (now (h .entry)) s) ⌝ }
-{
-    for k in 0..8 {
-        if h[2048 + 8 * s + k] != 0 {
-            return true;
-        }
-    }
-    false
-}
-
-// Whether person s started a declared person.
-fn has_started(t: &Words, h: &[u8], s: usize) -> bool
-    requires { ⌜ (length (now h) ≡ historyBytes) × (s < 64) ⌝ }
-    ensures { λ r. ⌜ r ≡ started (tablesOf (now (t .entry))) (now (h .entry)) s ⌝ }
-{
-    if !any_start(h, s) {
-        return false;
-    }
-    for u in 0..64 {
-        let person = packed::person(t, u);
-        if person.declared {
-            if bit_within(h, 16384 + 64 * s + u) {
-                return true;
-            }
-        }
-    }
-    false
-}
-
-// What person s, who stepped on these folders, did: every folder in turn, then the starts.
-pub fn past_of(t: &Words, h: &[u8], s: usize, stepped: Folders) -> Past
+// What person s, who stepped on these of the 64 folders from `first` on, did up to the last of them, if `before` is what the person did on
+// the folders before them, without the rights of steps. Their reads are one word of the history, and their writes another. Where the
+// person did nothing on them, the tables are not copied.
+fn past_over(t: Tables, h: &[u8], s: usize, first: usize, stepped: u64, before: Past) -> Past
     requires { ⌜
-        (length (now h) ≡ historyBytes) × (given (tablesOf (now t)) ≡ true) × (personDeclared (tablesOf (now t)) s ≡ true)
-        × (stepped ≡ foldersOf (steppedAt (now h) s))
+        (length (now h) ≡ historyBytes) × (given t ≡ true) × (personDeclared t s ≡ true) × (first % 8 ≡ 0) × (first + 64 ≤ 128)
+        × (stepped ≡ maskBelow 64 (λ i. steppedAt (now h) s (first + i))) × (before ≡ pastBelow t (setOf (now h)) s first)
         ⌝ }
-    ensures { λ r. ⌜ r ≡ pastOf (tablesOf (now (t .entry))) (setOf (now (h .entry))) s ⌝ }
+    ensures { λ r. ⌜ r ≡ pastBelow t (setOf (now (h .entry))) s (first + 64) ⌝ }
+{
+    let read = history::word_at(h, 16 * s + (first >> 3));
+    let wrote = history::word_at(h, 1024 + 16 * s + (first >> 3));
+    let set = read | wrote | stepped;
+    if set == 0 {
+        return before;
+    }
+    past_visiting(t, first, read, wrote, set, before)
+}
+
+// Whether person s started a person of a set: the starts of person s are one word of the history.
+fn has_started(h: &[u8], s: usize, persons: u64) -> bool
+    requires { ⌜ (length (now h) ≡ historyBytes) × (s < 64) ⌝ }
+    ensures { λ r. ⌜ r ≡ started persons (now (h .entry)) s ⌝ }
+{
+    history::word_at(h, 2048 + 8 * s) & persons != 0
+}
+
+// The rights, with those of a set of steps and that of starts.
+fn rights_with(rights: u64, steps: u16, starts: bool) -> u64
+    ensures { λ r. ⌜ r ≡ rightsWith rights steps starts ⌝ }
+{
+    bits::with_bit64_if(starts, rights | (bits::word16(steps) << 48), 32)
+}
+
+// What person s did, who stepped on these folders and applied these steps to declared folders, where `persons` are the declared persons:
+// the folders that the person read, wrote or stepped on, then the steps and the starts.
+pub fn past_of(t: Tables, h: &[u8], s: usize, persons: u64, stepped: Folders, applied: u16) -> Past
+    requires { ⌜
+        (length (now h) ≡ historyBytes) × (given t ≡ true) × (personDeclared t s ≡ true) × (persons ≡ maskBelow 64 (personDeclared t))
+        × (stepped ≡ foldersOf (steppedAt (now h) s)) × (applied ≡ maskBelow 16 (appliedAt t (now h) s))
+        ⌝ }
+    ensures { λ r. ⌜ r ≡ pastOf t (setOf (now (h .entry))) s ⌝ }
 {
     let none = Past {
         rights: 0,
@@ -189,8 +142,25 @@ pub fn past_of(t: &Words, h: &[u8], s: usize, stepped: Folders) -> Past
     let low = past_over(t, h, s, 0, stepped.low, none);
     let past = past_over(t, h, s, 64, stepped.high, low);
     Past {
-        rights: bits::with_bit64_if(has_started(t, h, s), past.rights, 32),
+        rights: rights_with(past.rights, applied, has_started(h, s, persons)),
         firms: past.firms,
         counted: past.counted,
     }
+}
+
+// What person s did, gathered for this person alone.
+pub fn past_alone(t: Tables, h: &[u8], s: usize) -> Past
+    requires { ⌜ (length (now h) ≡ historyBytes) × (given t ≡ true) × (personDeclared t s ≡ true) ⌝ }
+    ensures { λ r. ⌜ r ≡ pastOf t (setOf (now (h .entry))) s ⌝ }
+{
+    let steppers = steps::all_steppers(h);
+    let stepped = steps::stepped_by(&steppers, s);
+    past_of(
+        t,
+        h,
+        s,
+        persons(t),
+        stepped,
+        applied::applied_by(t, h, s, stepped),
+    )
 }

@@ -2,10 +2,11 @@
 // 2560 + 128 * o + 8 * p on (document 01, "History").
 ghost use mathlib.Core.Path.{_≡_};
 ghost use Prim.Native.Nat.{_+_, _≤_, _<_};
-ghost use lib.ListN.{length};
-ghost use Rattle.bits.specs.Bits.{maskBelow};
+ghost use lib.ListN.{length, getD};
+ghost use Rattle.bits.specs.Bits.{bit, maskBelow};
 ghost use Rattle.policy.specs.History.{historyBytes};
 ghost use Rattle.past.specs.Folders.{foldersOf};
+ghost use Rattle.past.specs.Gathering.{SteppersOf};
 ghost use Rattle.past.specs.Turns.{InBounds, stepAt, steppedAt};
 use crate::Folders;
 
@@ -32,7 +33,7 @@ pub fn steps_of(h: &[u8], s: usize, o: usize) -> u16
 }
 
 // The set of the persons who stepped on folder o.
-fn steppers(h: &[u8], o: usize) -> u64
+pub fn steppers(h: &[u8], o: usize) -> u64
     requires { ⌜ (length (now h) ≡ historyBytes) × (o < 128) ⌝ }
     ensures { λ r. ⌜ r ≡ maskBelow 64 (λ s. steppedAt (now (h .entry)) s o) ⌝ }
 {
@@ -43,25 +44,37 @@ fn steppers(h: &[u8], o: usize) -> u64
     set
 }
 
-// The set of those of the 64 folders from `first` on on which person s stepped: bit i for folder first + i.
-fn stepped_over(h: &[u8], s: usize, first: usize) -> u64
-    requires { ⌜ (length (now h) ≡ historyBytes) × (s < 64) × (first + 64 ≤ 128) ⌝ }
-    ensures { λ r. ⌜ r ≡ maskBelow 64 (λ i. steppedAt (now (h .entry)) s (first + i)) ⌝ }
+// For each folder the set of the persons who stepped on it.
+pub fn all_steppers(h: &[u8]) -> [u64; 128]
+    requires { ⌜ length (now h) ≡ historyBytes ⌝ }
+    ensures { λ r. ⌜ SteppersOf (now (h .entry)) r ⌝ }
+{
+    let mut all: [u64; 128] = [0; 128];
+    for o in 0..128 {
+        all[o] = steppers(h, o);
+    }
+    all
+}
+
+// The set of those of the 64 folders from `first` on whose steppers have person s among them: bit i for folder first + i.
+fn stepped_over(steppers: &[u64; 128], s: usize, first: usize) -> u64
+    requires { ⌜ (s < 64) × (first + 64 ≤ 128) ⌝ }
+    ensures { λ r. ⌜ r ≡ maskBelow 64 (λ i. bit (getD (now (steppers .entry)) (first + i) 0) s) ⌝ }
 {
     let mut set: u64 = 0;
     for i in 0..64 {
-        set = bits::with_bit64_if(bits::bit64(steppers(h, first + i), s), set, i);
+        set = bits::with_bit64_if(bits::bit64(steppers[first + i], s), set, i);
     }
     set
 }
 
-// The folders on which person s stepped.
-pub fn stepped_by(h: &[u8], s: usize) -> Folders
-    requires { ⌜ (length (now h) ≡ historyBytes) × (s < 64) ⌝ }
-    ensures { λ r. ⌜ r ≡ foldersOf (steppedAt (now (h .entry)) s) ⌝ }
+// The folders whose steppers have person s among them.
+pub fn stepped_by(steppers: &[u64; 128], s: usize) -> Folders
+    requires { ⌜ s < 64 ⌝ }
+    ensures { λ r. ⌜ r ≡ foldersOf (λ o. bit (getD (now (steppers .entry)) o 0) s) ⌝ }
 {
     Folders {
-        low: stepped_over(h, s, 0),
-        high: stepped_over(h, s, 64),
+        low: stepped_over(steppers, s, 0),
+        high: stepped_over(steppers, s, 64),
     }
 }

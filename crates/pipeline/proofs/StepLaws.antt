@@ -3,11 +3,11 @@
 use Prim.Native.Nat.{ℕ, zero, suc, _+_, _*_, _%_, _<_}
 use native.Mathlib.Nat.{lt-of-le-of-lt}
 use native.Mathlib.Omega.{arith}
-use mathlib.Core.Path.{_≡_, refl, sym, ap, ap₂, _∙_}
-use mathlib.Core.Logic.{_≢_}
+use mathlib.Core.Path.{_≡_, ap, ap₂, _∙_}
 use mathlib.Core.Bool.{Bool, true, not, _&&_, Bool·not-not, and-comm}
 use mathlib.Core.List.{List}
 use lib.Dec.{eqb}
+use borrow.Author.Tests.{ne-eqb}
 use lib.Bits.{bitAnd, and-le-r}
 use lib.ListN.{getD}
 use Rattle.bits.specs.Bits.{bit, maskBelow}
@@ -24,7 +24,7 @@ use Rattle.policy.specs.Rules.{did, done, leadsTo, pipelineStep}
 use Rattle.policy.proofs.Requests.{declared-person, step-declared, declared-place}
 use Rattle.history.specs.Words.{wordAt}
 use Rattle.history.proofs.WordLaws.{word-bit}
-use Rattle.pipeline.specs.Steps.{doneBy, leads, leadsAmong}
+use Rattle.pipeline.specs.Steps.{doneBy, leads, leadsAmong, pipelineIn}
 
 -- ---- the steps done
 
@@ -88,18 +88,13 @@ module _ (t : Tables) (H : Request → Bool) (o : ℕ) where
       rw (own, next, bit-mask-below 16 (done t H o) p lp, disjoint (enabledBy t p))
 
   -- the rule, from the set of the steps done
-  pub led-to : (steps q : ℕ) → steps ≡ maskBelow 16 (done t H o) → q ≢ 0 → q < 16
-      → anyBelow 16 (leadsAmong (t .steps) steps q) ≡ pipelineStep t H q o
-  unfolding pipelineStep
-  led-to steps zero e n l = absurd (n refl)
-  led-to steps (suc q) e n l =
-      ap (λ (d : ℕ). anyBelow 16 (leadsAmong (t .steps) d (suc q))) e
-      ∙ any-ext 16 (leadsAmong (t .steps) (maskBelow 16 (done t H o)) (suc q)) (leadsTo t H o (suc q)) (λ p i. leads-is (suc q) p i l)
-
-  pub none-done : (steps q : ℕ) → steps ≡ maskBelow 16 (done t H o) → q ≡ 0 → eqb steps 0 ≡ pipelineStep t H q o
-  unfolding pipelineStep
-  none-done steps q e z =
+  pub pipeline-in : (steps : List ℕ) (set q : ℕ) → steps ≡ t .steps → set ≡ maskBelow 16 (done t H o) → q < 16
+      → pipelineIn steps set q ≡ pipelineStep t H q o
+  unfolding pipelineStep pipelineIn
+  pipeline-in steps set zero own e l =
       ap (λ (d : ℕ). eqb d 0) e
       ∙ empty-none 16 (maskBelow 16 (done t H o)) (mask-lt 16 (done t H o))
       ∙ ap not (any-ext 16 (bit (maskBelow 16 (done t H o))) (done t H o) (bit-mask-below 16 (done t H o)))
-      ∙ ap (λ (n : ℕ). pipelineStep t H n o) (sym z)
+  pipeline-in steps set (suc q) own e l =
+      rw (own, e, ne-eqb (suc q) 0 (omega arith))
+      (any-ext 16 (leadsAmong (t .steps) (maskBelow 16 (done t H o)) (suc q)) (leadsTo t H o (suc q)) (λ p i. leads-is (suc q) p i l))

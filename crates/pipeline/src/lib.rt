@@ -1,18 +1,14 @@
-// The pipeline (document 01, "Four rules"): the steps done on a folder, and whether one more step is permitted.
+// The pipeline (document 01, "Four rules"): the steps done on a folder, and whether one more step is permitted, over the sets of the steps
+// that each step enables.
 ghost use mathlib.Core.Path.{_≡_};
-ghost use mathlib.Core.Bool.{true, not, cond};
+ghost use mathlib.Core.Bool.{not, cond};
 ghost use Prim.Native.Nat.{_+_, _*_, _%_, _<_};
 ghost use lib.Dec.{eqb};
 ghost use lib.ListN.{length};
 ghost use Rattle.bits.specs.Bits.{withBit, maskBelow};
 ghost use Rattle.bits.specs.Bounded.{anyBelow};
-ghost use Rattle.policy.specs.Tables.{folderDeclared};
 ghost use Rattle.policy.specs.History.{historyBytes};
-ghost use Rattle.policy.specs.Request.{setOf};
-ghost use Rattle.policy.specs.Rules.{pipelineStep};
-ghost use Rattle.packed.specs.Packed.{tablesOf};
-ghost use Rattle.pipeline.specs.Steps.{doneBy, leads, leadsAmong};
-use packed::Words;
+ghost use Rattle.pipeline.specs.Steps.{doneBy, leads, leadsAmong, pipelineIn};
 
 // The set, with step p where somebody did it.
 fn with_step(done: u16, doers: u64, p: usize) -> u16
@@ -26,7 +22,7 @@ fn with_step(done: u16, doers: u64, p: usize) -> u16
 }
 
 // The set of the steps that some of these persons did on folder o.
-fn steps_done(h: &[u8], persons: u64, o: usize) -> u16
+pub fn steps_done(h: &[u8], persons: u64, o: usize) -> u16
     requires { ⌜ (length (now h) ≡ historyBytes) × (o < 128) ⌝ }
     ensures { λ r. ⌜ r ≡ maskBelow 16 (doneBy (now (h .entry)) persons o) ⌝ }
 {
@@ -55,25 +51,23 @@ fn leads_to(enabled: u16, done: u16, p: usize, q: usize) -> bool
 }
 
 // Whether some step leads to q.
-fn is_led_to(t: &Words, done: u16, q: usize) -> bool
-    ensures { λ r. ⌜ r ≡ anyBelow 16 (leadsAmong (tablesOf (now (t .entry)) .steps) done q) ⌝ }
+fn is_led_to(steps: &[u16; 16], done: u16, q: usize) -> bool
+    ensures { λ r. ⌜ r ≡ anyBelow 16 (leadsAmong (now (steps .entry)) done q) ⌝ }
 {
     for p in 0..16 {
-        if leads_to(packed::enabled(t, p), done, p, q) {
+        if leads_to(steps[p], done, p, q) {
             return true;
         }
     }
     false
 }
 
-// Whether the pipeline permits step q on folder o.
-pub fn permits(t: &Words, h: &[u8], q: usize, o: usize) -> bool
-    requires { ⌜ (length (now h) ≡ historyBytes) × (folderDeclared (tablesOf (now t)) o ≡ true) × (q < 16) ⌝ }
-    ensures { λ r. ⌜ r ≡ pipelineStep (tablesOf (now (t .entry))) (setOf (now (h .entry))) q o ⌝ }
+// Whether the pipeline permits step q on a folder on which these steps are done.
+pub fn permits(steps: &[u16; 16], done: u16, q: usize) -> bool
+    ensures { λ r. ⌜ r ≡ pipelineIn (now (steps .entry)) done q ⌝ }
 {
-    let done = steps_done(h, packed::persons(t), o);
     if q == 0 {
         return done == 0;
     }
-    is_led_to(t, done, q)
+    is_led_to(steps, done, q)
 }

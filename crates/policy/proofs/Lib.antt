@@ -1,6 +1,7 @@
 pub mod Marked
 pub mod Requests
 pub mod Accesses
+pub mod OneMore
 pub mod Published
 pub mod Ladders
 pub mod Answers

@@ -5,6 +5,7 @@ pub mod History
 pub mod Request
 pub mod Levels
 pub mod Rules
+pub mod OneMore
 pub mod Calls
 pub mod Published
 pub mod Given

@@ -1,17 +1,18 @@
 -- The request at the front of some bytes, by the number of the bytes and the first of them: each form follows by writing the bytes out.
-use Prim.Native.Nat.{ℕ, _≤_, _<_}
+use Prim.Native.Nat.{ℕ, _+_, _≤_, _<_}
 use native.Mathlib.Nat.{eq-or-lt-of-le}
 use native.Mathlib.Omega.{arith}
-use mathlib.Core.Path.{_≡_, refl, ap, _∙_}
+use mathlib.Core.Path.{_≡_, refl, sym, ap, _∙_}
 use mathlib.Core.Logic.{_≢_, ⊎-elim}
 use mathlib.Core.Bool.{Bool, true, false, cond}
 use mathlib.Core.List.{List, [], _∷_}
 use mathlib.Core.Option.{none, some}
 use lib.Dec.{eqb}
 use lib.ListN.{length, getD, drop}
-use borrow.Author.Tests.{ne-eqb}
+use borrow.Author.Tests.{eqb-true, eq-eqb, ne-eqb}
+use Rattle.bits.proofs.Booleans.{decide}
 use Rattle.policy.specs.Request.{Request, read, write, start, step, two, three, requestOf, recordLength}
-use Rattle.request.specs.Parsed.{accessBy, nextAfter, nextRecord}
+use Rattle.request.specs.Parsed.{accessBy, requestFor, nextAfter, nextRecord}
 
 -- four choices among one thing
 same-choices : {A : Type 0} (a b c d : Bool) (x : A) → cond a x (cond b x (cond c x (cond d x x))) ≡ x
@@ -90,6 +91,49 @@ whole-step (k ∷ a ∷ []) h = let z : ⊥ = omega arith in absurd z
 whole-step (k ∷ a ∷ b ∷ []) h = let z : ⊥ = omega arith in absurd z
 whole-step (k ∷ a ∷ b ∷ c ∷ rest) h = refl
 
+-- three bytes of kind 19 or above hold no request
+pub unknown-short : (l : List ℕ) → length l ≡ 3 → 19 ≤ getD l 0 0 → requestOf l ≡ none
+unknown-short l n low =
+    ⊎-elim (λ e. is-step l (omega arith) (sym e) ∙ cut-step l (omega arith))
+    (λ above. is-unknown l (omega arith) (omega arith) (omega arith) (omega arith) (omega arith)) (eq-or-lt-of-le low)
+
+-- ---- the fields of a record
+
+-- a record of three bytes that is no step
+pub short-fields : (l : List ℕ) (p : ℕ) → length l ≡ 3 → getD l 0 0 ≢ 19
+    → requestFor (getD l 0 0) (getD l 1 0) (getD l 2 0) p ≡ requestOf l
+unfolding requestOf requestFor two three
+short-fields [] p n k = let z : ⊥ = omega arith in absurd z
+short-fields (k ∷ []) p n other = let z : ⊥ = omega arith in absurd z
+short-fields (k ∷ a ∷ []) p n other = let z : ⊥ = omega arith in absurd z
+short-fields (k ∷ a ∷ b ∷ []) p n other = rw (ne-eqb k 19 other)
+short-fields (k ∷ a ∷ b ∷ c ∷ rest) p n other = let z : ⊥ = omega arith in absurd z
+
+-- what stands in the place of a step's folder does not matter to another kind
+no-step : (k a b c p : ℕ) → eqb k 19 ≡ false
+    → requestFor k a b p
+    ≡ cond (eqb k 16) (some (read a b))
+    (cond (eqb k 17) (some (write a b)) (cond (eqb k 18) (some (start a b)) (cond (eqb k 19) (some (step a b c)) none)))
+unfolding requestFor
+no-step k a b c p e = rw e
+
+-- the fields of a record where four bytes are left: a step has its folder one place on
+pub long-fields : (l : List ℕ) (more : ℕ) → 4 ≤ length l → more ≡ cond (eqb (getD l 0 0) 19) 1 0
+    → requestFor (getD l 0 0) (getD l 1 0) (getD l (2 + more) 0) (getD l 2 0) ≡ requestOf l
+unfolding requestOf requestFor two three
+long-fields [] more n e = let z : ⊥ = omega arith in absurd z
+long-fields (k ∷ []) more n e = let z : ⊥ = omega arith in absurd z
+long-fields (k ∷ a ∷ []) more n e = let z : ⊥ = omega arith in absurd z
+long-fields (k ∷ a ∷ b ∷ []) more n e = let z : ⊥ = omega arith in absurd z
+long-fields (k ∷ a ∷ b ∷ c ∷ rest) more n e =
+    ⊎-elim
+    (λ y.
+    let m : more ≡ 1 = e ∙ ap (λ (x : Bool). cond x 1 0) y in
+    let i : k ≡ 19 = eqb-true k 19 y in
+    rw (m, i))
+    (λ f. let m : more ≡ 0 = e ∙ ap (λ (x : Bool). cond x 1 0) f in rw m (no-step k a b c b f))
+    (decide (eqb k 19))
+
 -- ---- how far on the next record stands
 
 -- fewer than four bytes are passed all, whether they are a record of three bytes or none
@@ -128,3 +172,11 @@ module _ (l : List ℕ) (long : 4 ≤ length l) where
   pub next-unknown : getD l 0 0 ≢ 16 → getD l 0 0 ≢ 17 → getD l 0 0 ≢ 18 → getD l 0 0 ≢ 19 → nextRecord l ≡ length l
   unfolding nextRecord nextAfter
   next-unknown p q r s = rw (is-unknown l (omega arith) p q r s)
+
+  -- the next record after one of a known kind
+  pub next-known : (more : ℕ) → 16 ≤ getD l 0 0 → getD l 0 0 ≤ 19 → more ≡ cond (eqb (getD l 0 0) 19) 1 0 → nextRecord l ≡ 3 + more
+  next-known more low high e =
+      ⊎-elim
+      (λ (k : getD l 0 0 ≡ 19). next-step k ∙ rw (e, eq-eqb (getD l 0 0) 19 k))
+      (λ below. next-three low (omega arith) ∙ rw (e, ne-eqb (getD l 0 0) 19 (omega arith)))
+      (eq-or-lt-of-le high)

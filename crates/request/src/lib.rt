@@ -1,54 +1,93 @@
 // Request records (document 01, "Requests and calls"): the request at the front of some bytes, and where the next one stands.
 ghost use mathlib.Core.Path.{_≡_};
-ghost use Prim.Native.Nat.{_<_};
-ghost use lib.ListN.{drop};
-ghost use Rattle.policy.specs.Request.{requestOf, start, step, index, three};
-ghost use Rattle.request.specs.Parsed.{accessBy, asRequest, nextRecord};
+ghost use mathlib.Core.Bool.{cond};
+ghost use mathlib.Core.Option.{none};
+ghost use Prim.Native.Nat.{_≤_, _<_};
+ghost use lib.Dec.{eqb};
+ghost use lib.ListN.{length};
+ghost use Rattle.policy.specs.Request.{start, step, index};
+ghost use Rattle.request.specs.Parsed.{accessBy, asRequest, nextRecord, ParsedFrom};
 
-// A request with its fields, or none: the kind is unknown or the record is cut. An access is a write or a read.
-pub enum Parsed {
-    Nothing,
-    Access { write: bool, person: u8, folder: u8 },
-    Start { person: u8, second: u8 },
-    Step { person: u8, step: u8, folder: u8 },
+// A request as its record has it: the kind, the person, the folder or the second person, and the step, which is passed over unless the kind
+// is 19; and how far on the next record stands. Kind 0 stands for none: the kind is unknown or the record is cut.
+pub struct Parsed {
+    pub kind: u8,
+    pub person: u8,
+    pub target: u8,
+    pub step: u8,
+    pub next: usize,
 }
 
-// The request whose record stands at the front of the bytes. The kind fixes the length of the record.
-pub fn parse(bytes: &[u8]) -> Parsed
-    ensures { λ r. ⌜ asRequest r ≡ requestOf (now (bytes .entry)) ⌝ }
+// No request: the bytes left are passed.
+fn nothing(left: usize) -> Parsed
+    ensures { λ r. ⌜ (asRequest r ≡ none) × (r .next ≡ left) ⌝ }
 {
-    let n = bytes.len();
-    if n < 3 {
-        return Parsed::Nothing;
+    Parsed {
+        kind: 0,
+        person: 0,
+        target: 0,
+        step: 0,
+        next: left,
+    }
+}
+
+// The request in fewer than four bytes: a read, a write or a start of three bytes, or none.
+fn parse_short(bytes: &[u8]) -> Parsed
+    requires { ⌜ length (now bytes) < 4 ⌝ }
+    ensures { λ r. ⌜ ParsedFrom (now (bytes .entry)) r ⌝ }
+{
+    let left = bytes.len();
+    if left < 3 {
+        return nothing(left);
     }
     let kind = bytes[0];
     match kind {
-        16..=17 => Parsed::Access {
-            write: kind == 17,
+        16..=18 => Parsed {
+            kind: kind,
             person: bytes[1],
-            folder: bytes[2],
+            target: bytes[2],
+            step: 0,
+            next: 3,
         },
-        18 => Parsed::Start {
-            person: bytes[1],
-            second: bytes[2],
-        },
-        19 => parse_step(bytes),
-        0..=15 => Parsed::Nothing,
-        20..=255 => Parsed::Nothing,
+        0..=15 => nothing(left),
+        19..=255 => nothing(left),
     }
 }
 
-// The step whose record stands at the front of the bytes.
-fn parse_step(bytes: &[u8]) -> Parsed
-    ensures { λ r. ⌜ asRequest r ≡ three step (drop 1 (now (bytes .entry))) ⌝ }
+// By how many bytes a record of this kind is longer than one of three: a step has one more.
+fn longer(kind: u8) -> usize
+    ensures { λ r. ⌜ (r ≡ cond (eqb kind 19) 1 0) × (r ≤ 1) ⌝ }
 {
-    if bytes.len() < 4 {
-        return Parsed::Nothing;
+    match kind {
+        19 => 1,
+        0..=18 => 0,
+        20..=255 => 0,
     }
-    Parsed::Step {
+}
+
+// The request whose record stands at the front of the bytes. The kind fixes the length of the record and where its fields stand, and no
+// jump tells steps from other requests: which kind comes next cannot be foreseen.
+pub fn parse(bytes: &[u8]) -> Parsed
+    ensures { λ r. ⌜ ParsedFrom (now (bytes .entry)) r ⌝ }
+{
+    let left = bytes.len();
+    if left < 4 {
+        return parse_short(bytes);
+    }
+    let kind = bytes[0];
+    if kind < 16 {
+        return nothing(left);
+    }
+    if kind > 19 {
+        return nothing(left);
+    }
+    let more = longer(kind);
+    Parsed {
+        kind: kind,
         person: bytes[1],
+        target: bytes[2 + more],
         step: bytes[2],
-        folder: bytes[3],
+        next: 3 + more,
     }
 }
 

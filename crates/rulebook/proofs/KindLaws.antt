@@ -57,43 +57,43 @@ module _ (r : Reading) where
   unfolding recordRead
   is-past l =
       List·getD-eq-default (end
-      ∷ rules (r .mask)
-      ∷ firm (r .firm) (r .class)
-      ∷ person (r .person) (r .level)
-      ∷ folder (r .folder) (r .firm) (r .«folder_kind») (r .level)
-      ∷ role (r .role) (r .rights)
-      ∷ pair (r .p) (r .q)
-      ∷ public (r .folder)
+      ∷ rules (r .first)
+      ∷ firm (r .first) (r .second)
+      ∷ person (r .first) (r .level)
+      ∷ folder (r .first) (r .second) (r .third) (r .level)
+      ∷ role (r .first) (r .rights)
+      ∷ pair (r .first) (r .second)
+      ∷ public (r .first)
       ∷ []) end l
 
   pub is-end : r .kind ≡ 0 → recordRead r ≡ end
   unfolding recordRead
   is-end e = rw e
 
-  pub is-rules : r .kind ≡ 1 → recordRead r ≡ rules (r .mask)
+  pub is-rules : r .kind ≡ 1 → recordRead r ≡ rules (r .first)
   unfolding recordRead
   is-rules e = rw e
 
-  pub is-firm : r .kind ≡ 2 → recordRead r ≡ firm (r .firm) (r .class)
+  pub is-firm : r .kind ≡ 2 → recordRead r ≡ firm (r .first) (r .second)
   unfolding recordRead
   is-firm e = rw e
 
-  pub is-person : r .kind ≡ 3 → recordRead r ≡ person (r .person) (r .level)
+  pub is-person : r .kind ≡ 3 → recordRead r ≡ person (r .first) (r .level)
   unfolding recordRead
   is-person e = rw e
 
-  pub is-folder : r .kind ≡ 4 → recordRead r ≡ folder (r .folder) (r .firm) (r .«folder_kind») (r .level)
+  pub is-folder : r .kind ≡ 4 → recordRead r ≡ folder (r .first) (r .second) (r .third) (r .level)
   unfolding recordRead
   is-folder e = rw e
 
-  pub is-role : r .kind ≡ 5 → recordRead r ≡ role (r .role) (r .rights)
+  pub is-role : r .kind ≡ 5 → recordRead r ≡ role (r .first) (r .rights)
   unfolding recordRead
   is-role e = rw e
 
-  pub is-pair : r .kind ≡ 6 → recordRead r ≡ pair (r .p) (r .q)
+  pub is-pair : r .kind ≡ 6 → recordRead r ≡ pair (r .first) (r .second)
   unfolding recordRead
   is-pair e = rw e
 
-  pub is-public : r .kind ≡ 7 → recordRead r ≡ public (r .folder)
+  pub is-public : r .kind ≡ 7 → recordRead r ≡ public (r .first)
   unfolding recordRead
   is-public e = rw e

@@ -16,7 +16,7 @@ use Rattle.policy.specs.declared.Tables.{Tables}
 use Rattle.policy.specs.Tables.{emptyTables}
 use Rattle.policy.specs.Rulebook.{Record, bodyLength, recordOf, declare, refusedBook, ended, loadFrom, loadBook}
 use Rattle.rulebook.specs.declared.records.Reading.{Reading}
-use Rattle.rulebook.specs.Readings.{recordRead, WholeRead, ReadAt, knownOf, numberOf, numberAt}
+use Rattle.rulebook.specs.Readings.{recordRead, WholeRead, ReadAt, numberOf, numberAt}
 use Rattle.rulebook.proofs.NumberLaws.{number-is, read-whole}
 
 -- some number of turns over the bytes from an offset on, after the tables t, gives what the whole book gives
@@ -79,7 +79,7 @@ module _ (book : List ℕ) (at : ℕ) (t : Tables) where
 -- ---- a turn of the loop
 
 module _ {book : List ℕ} {at : ℕ} {t : Tables} {r : Reading} {n : ℕ}
-    (left : Left book at t) (read : ReadAt book at r) (is : n ≡ numberOf r (knownOf t r)) where
+    (left : Left book at t) (read : ReadAt book at r) (is : n ≡ numberOf t r) where
   number : n ≡ numberAt book at t
   number = is ∙ number-is book at t r read
 

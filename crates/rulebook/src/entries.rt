@@ -1,5 +1,6 @@
 // The entries of the tables: as they stand in the empty book, as a record declares them, and as a load leaves them.
 ghost use mathlib.Core.Path.{_≡_};
+ghost use lib.ListN.{replicate};
 ghost use Rattle.policy.specs.Tables.{emptyTables};
 ghost use Rattle.policy.specs.Rulebook.{madePublic, firmGiven, personGiven, roleGiven};
 ghost use Rattle.rulebook.specs.Entries.{
@@ -20,6 +21,19 @@ use policy::Folder;
 use policy::Person;
 use policy::Role;
 use policy::Tables;
+
+// Arrays of one entry. Each is made in a function of its own, where the entry is copied whole and not field by field.
+fn persons_of(entry: Person) -> [Person; 64]
+    ensures { λ r. ⌜ r ≡ replicate 64 entry ⌝ }
+{
+    [entry; 64]
+}
+
+fn folders_of(entry: Folder) -> [Folder; 128]
+    ensures { λ r. ⌜ r ≡ replicate 128 entry ⌝ }
+{
+    [entry; 128]
+}
 
 // The tables of the empty book.
 pub fn empty() -> Tables
@@ -45,8 +59,8 @@ pub fn empty() -> Tables
         rights: 0,
     };
     let firms = [firm; 64];
-    let persons = [person; 64];
-    let folders = [folder; 128];
+    let persons = persons_of(person);
+    let folders = folders_of(folder);
     let roles = [role; 32];
     let steps = [0u16; 16];
     Tables {

@@ -6,7 +6,6 @@ use logic::both;
 use policy::Loaded;
 use policy::Tables;
 use policy::numbers;
-use records::Known;
 
 mod entries;
 mod logic;
@@ -43,7 +42,8 @@ fn finish(at: usize, t: Tables) -> Loaded
     }
 }
 
-// Loads a book: its tables, or those of the empty book with the number and the offset of what refuses it.
+// Loads a book: its tables, or those of the empty book with the number and the offset of what refuses it. `own` is the number that a
+// record declares or marks, and `named` the firm or the step that it names besides.
 pub fn load(book: &[u8]) -> Loaded
     ensures { λ r. ⌜ r ≡ loadBook (now (book .entry)) ⌝ }
 {
@@ -52,33 +52,30 @@ pub fn load(book: &[u8]) -> Loaded
     loop {
         let r = records::read(book, at);
         let kind = r.kind;
-        let firm = r.firm;
-        let person = r.person;
-        let folder = r.folder;
-        let role = r.role;
-        let p = r.p;
-        let entry = t.folders[folder];
-        let known = Known {
-            firm: t.firms[firm].declared,
-            person: t.persons[person].declared,
-            folder: entry.declared,
-            public: entry.public,
-            role: t.roles[role].declared,
-            steps: t.steps[p],
-        };
-        let number = records::record_number(r, known);
+        let own = r.first as usize;
+        let named = r.second as usize;
+        let mut number = r.number;
+        match kind {
+            2 => number = records::declared_number(t.firms[own].declared),
+            3 => number = records::declared_number(t.persons[own].declared),
+            4 => number = records::folder_number(t.folders[own].declared, t.firms[named].declared),
+            5 => number = records::declared_number(t.roles[own].declared),
+            6 => number = records::pair_number(t.steps[own], named),
+            7 => number = records::mark_number(t.folders[own].public, t.folders[own].declared),
+            0 | 1 | 8..=255 => {}
+        }
         if number != numbers::GRANTED {
             return refuse(number, at);
         }
         match kind {
             0 => return finish(at, t),
-            1 => t.mask = r.mask,
-            2 => t.firms[firm] = entries::new_firm(r.class),
-            3 => t.persons[person] = entries::new_person(r.level),
-            4 => t.folders[folder] = entries::new_folder(r.firm as u8, r.folder_kind, r.level),
-            5 => t.roles[role] = entries::new_role(r.rights),
-            6 => t.steps[p] = bits::with_bit16(known.steps, r.q),
-            7 => t.folders[folder] = entries::made_public(entry),
+            1 => t.mask = r.first,
+            2 => t.firms[own] = entries::new_firm(r.second),
+            3 => t.persons[own] = entries::new_person(r.level),
+            4 => t.folders[own] = entries::new_folder(r.second, r.third, r.level),
+            5 => t.roles[own] = entries::new_role(r.rights),
+            6 => t.steps[own] = bits::with_bit16(t.steps[own], named),
+            7 => t.folders[own] = entries::made_public(t.folders[own]),
             8..=255 => return refuse(numbers::UNKNOWN_KIND, at),
         }
         at = r.next;

@@ -1,12 +1,16 @@
 -- The wall and the roles over sets are the rules of the definitions: a firm is in the set exactly where the wall counts it, a right
 -- exactly where the person used it, and a declared folder's firm and kind are within the sets' bounds.
 use Prim.Native.Nat.{ℕ, _%_, _^_, _<_}
+use native.Mathlib.Nat.{lt-of-le-of-lt}
 use native.Mathlib.Omega.{arith}
 use mathlib.Core.Path.{_≡_, refl, sym, ap, ap₂, _∙_, subst}
-use mathlib.Core.Logic.{_⊎_, ⊎-elim}
-use mathlib.Core.Bool.{Bool, true, false, cond, not, _&&_, _||_}
+use mathlib.Core.Logic.{⊎-elim}
+use mathlib.Core.Bool.{Bool, true, false, not, _&&_, _||_, or-comm}
+use mathlib.Core.List.{List}
 use lib.Dec.{eqb, leb, ltb}
-use lib.Bits.{bitAnd}
+use lib.Bits.{bitAnd, and-le-l}
+use lib.Pow.{pow-pos}
+use lib.ListN.{getD}
 use borrow.Author.Tests.{eqb-true, eq-eqb, not-true, leb-true, lt-ltb}
 use Rattle.bits.specs.Bits.{bit, withBit, maskBelow}
 use Rattle.bits.specs.Bounded.{anyBelow, _implies_}
@@ -25,8 +29,9 @@ use Rattle.bits.proofs.Booleans.{
   false-intro,
 }
 use Rattle.bits.proofs.Bounds.{any-some, some-any, any-ext, all-at, all-of}
-use Rattle.bits.proofs.BitLaws.{bit-with, with-lt, subset-bit, bit-subset}
-use Rattle.bits.proofs.Masks.{mask-lt, bit-mask, bit-mask-below}
+use Rattle.bits.proofs.BitLaws.{bit-and, bit-with, bit-zero, with-lt, subset-bit, bit-subset}
+use Rattle.bits.proofs.Masks.{mask-lt, bit-mask, bit-mask-below, empty-none}
+use Rattle.policy.specs.declared.Role.{Role}
 use Rattle.policy.specs.declared.Tables.{Tables}
 use Rattle.policy.specs.Tables.{firmAt, folderAt, roleAt, folderDeclared, personDeclared, roleDeclared, classOf, isPublic}
 use Rattle.policy.specs.Rulebook.{given}
@@ -54,41 +59,10 @@ use Rattle.policy.proofs.Accesses.{
   some-firm,
   counts-some,
 }
-use Rattle.policy.proofs.GivenEntries.{folder-firm, folder-kind}
-use Rattle.rules.specs.Sets.{isRival, rivalAmong, wallBy, covers, coversAt, rolesBy}
-
--- ---- the code's test of the wall
-
-pub wall-public : (t : Tables) (firms o : ℕ) → isPublic t o ≡ true → wallBy t firms o ≡ true
-unfolding wallBy
-wall-public t firms o p = or-left _ _ p
-
-pub wall-own : (t : Tables) (firms o firm : ℕ) → firm ≡ folderAt t o .firm → bit firms (firm % 64) ≡ true → wallBy t firms o ≡ true
-unfolding wallBy
-wall-own t firms o firm e b = or-right (isPublic t o) _ (or-left _ _ (rw e at b))
-
-pub wall-some : (t : Tables) (firms o firm f : ℕ) → isPublic t o ≡ false → firm ≡ folderAt t o .firm → bit firms (firm % 64) ≡ false
-    → f < 64 → isRival (firmAt t f .class) firms f (firmAt t firm .class) ≡ true → wallBy t firms o ≡ false
-unfolding wallBy rivalAmong classOf
-wall-some t firms o firm f n e b l r =
-    let b′ : bit firms (folderAt t o .firm % 64) ≡ false = rw e at b in
-    let r′ : isRival (firmAt t f .class) firms f (firmAt t (folderAt t o .firm) .class) ≡ true = rw e at r in
-    rw (n, b′, some-any 64 (rivalAmong t firms (firmAt t (folderAt t o .firm) .class)) f l r′)
-
-pub wall-none : (t : Tables) (firms o firm : ℕ) → isPublic t o ≡ false → firm ≡ folderAt t o .firm → bit firms (firm % 64) ≡ false
-    → anyBelow 64 (rivalAmong t firms (firmAt t firm .class)) ≡ false → wallBy t firms o ≡ true
-unfolding wallBy classOf
-wall-none t firms o firm n e b none =
-    let b′ : bit firms (folderAt t o .firm % 64) ≡ false = rw e at b in
-    let none′ : anyBelow 64 (rivalAmong t firms (firmAt t (folderAt t o .firm) .class)) ≡ false = rw e at none in
-    rw (n, b′, none′)
+use Rattle.policy.proofs.GivenEntries.{given-entries, folder-firm, folder-kind, role-cases}
+use Rattle.rules.specs.Sets.{firmsOf, HasRoles, wallIn, covers, rolesIn}
 
 -- ---- the wall
-
--- a choice that is false otherwise
-both-taken : (a b : Bool) → cond a b false ≡ true → (a ≡ true) × (b ≡ true)
-both-taken true b e = (refl, e)
-both-taken false b e = absurd (false-elim false refl e)
 
 module _ (t : Tables) (H : Request → Bool) (s : ℕ) where
   -- a firm is in the set where some folder of it counts
@@ -97,23 +71,37 @@ module _ (t : Tables) (H : Request → Bool) (s : ℕ) where
       let own : f % 64 ≡ f = omega arith in
       ap (bit (maskBelow 64 (counted t H s))) own ∙ bit-mask-below 64 (counted t H s) f l
 
-  -- some firm of the set is of the class: some folder that counts is
-  rival-counted : (class : ℕ) → anyBelow 64 (rivalAmong t (maskBelow 64 (counted t H s)) class) ≡ true → otherClass t H s class ≡ false
-  unfolding rivalAmong isRival otherClass counted classOf
+  -- firm f counts and is of the class
+  rival : ℕ → ℕ → Bool
+  rival class f = counted t H s f && eqb (firmAt t f .class) class
+
+  common : (class : ℕ) → eqb (bitAnd (maskBelow 64 (counted t H s)) (firmsOf t class)) 0 ≡ not (anyBelow 64 (rival class))
+  unfolding firmsOf rival
+  common class =
+      let firms = maskBelow 64 (counted t H s) in
+      let of-class = maskBelow 64 (λ f. eqb (firmAt t f .class) class) in
+      empty-none 64 (bitAnd firms of-class) (lt-of-le-of-lt (and-le-l firms of-class) (mask-lt 64 (counted t H s)))
+      ∙ ap not
+      (any-ext 64 (bit (bitAnd firms of-class)) (rival class) (λ f l.
+      bit-and firms of-class f
+      ∙ ap₂ _&&_ (bit-mask-below 64 (counted t H s) f l) (bit-mask-below 64 (λ f. eqb (firmAt t f .class) class) f l)))
+
+  -- some firm that counts is of the class: some folder that counts is
+  rival-counted : (class : ℕ) → anyBelow 64 (rival class) ≡ true → otherClass t H s class ≡ false
+  unfolding rival otherClass counted classOf
   rival-counted class e =
-      let (f, l, w) = any-some 64 (rivalAmong t (maskBelow 64 (counted t H s)) class) e in
-      let (same-class, member) = both-taken (eqb (firmAt t f .class) class) _ w in
-      let (o, k, c, of-firm) = firm-some t (counts t H s) f (sym (in-set f l) ∙ member) in
+      let (f, l, w) = any-some 64 (rival class) e in
+      let (o, k, c, of-firm) = firm-some t (counts t H s) f (and-left (counted t H s f) _ w) in
       false-intro (otherClass t H s class) (λ all.
       let other =
       implies-elim (counts t H s o) _ (all-at 128 (λ o. counts t H s o implies not (eqb (classOf t o) class)) all o k) c in
       false-elim (eqb (classOf t o) class) (not-true _ other)
-      (ap (λ (i : ℕ). eqb (firmAt t i .class) class) (sym of-firm) ∙ same-class))
+      (ap (λ (i : ℕ). eqb (firmAt t i .class) class) (sym of-firm) ∙ and-right (counted t H s f) _ w))
 
   module _ (ok : given t ≡ true) where
-    -- no firm of the set is of the class: no folder that counts is
-    no-rival : (class : ℕ) → anyBelow 64 (rivalAmong t (maskBelow 64 (counted t H s)) class) ≡ false → otherClass t H s class ≡ true
-    unfolding rivalAmong isRival otherClass counted classOf
+    -- no firm that counts is of the class: no folder that counts is
+    no-rival : (class : ℕ) → anyBelow 64 (rival class) ≡ false → otherClass t H s class ≡ true
+    unfolding rival otherClass counted classOf
     no-rival class none =
         all-of 128 (λ o. counts t H s o implies not (eqb (classOf t o) class)) (λ o l.
         implies-intro (counts t H s o) _ (λ c.
@@ -123,24 +111,26 @@ module _ (t : Tables) (H : Request → Bool) (s : ℕ) where
         let member = some-firm t (counts t H s) f o l c refl in
         ap not
         (false-intro (eqb (classOf t o) class) (λ same.
-        false-elim (anyBelow 64 (rivalAmong t (maskBelow 64 (counted t H s)) class)) none
-        (some-any 64 (rivalAmong t (maskBelow 64 (counted t H s)) class) f small (rw same (in-set f small ∙ member)))))))
+        false-elim (anyBelow 64 (rival class)) none (some-any 64 (rival class) f small (and-both _ _ member same))))))
 
-    rivals : (class : ℕ) → not (anyBelow 64 (rivalAmong t (maskBelow 64 (counted t H s)) class)) ≡ otherClass t H s class
+    rivals : (class : ℕ) → not (anyBelow 64 (rival class)) ≡ otherClass t H s class
     rivals class =
         ⊎-elim (λ y. ap not y ∙ sym (rival-counted class y)) (λ n. ap not n ∙ sym (no-rival class n))
-        (decide (anyBelow 64 (rivalAmong t (maskBelow 64 (counted t H s)) class)))
+        (decide (anyBelow 64 (rival class)))
 
-    pub wall-by : (o : ℕ) → folderDeclared t o ≡ true → wallBy t (maskBelow 64 (counted t H s)) o ≡ wallAccess t H s o
-    unfolding wallBy wallAccess
-    wall-by o known =
-        ap (λ (b : Bool). isPublic t o || b)
-        (ap₂ _||_ (in-set (folderAt t o .firm) (folder-firm t ok o known)) (rivals (classOf t o)))
+    pub wall-in : (o firms class : ℕ) → folderDeclared t o ≡ true → firms ≡ maskBelow 64 (counted t H s)
+        → class ≡ firmsOf t (classOf t o) → wallIn (folderAt t o) firms class ≡ wallAccess t H s o
+    unfolding wallIn wallAccess
+    wall-in o firms class known e f =
+        rw (e, f)
+        (ap (λ (b : Bool). isPublic t o || b)
+        (ap₂ _||_ (common (classOf t o) ∙ rivals (classOf t o)) (in-set (folderAt t o .firm) (folder-firm t ok o known))
+        ∙ or-comm (otherClass t H s (classOf t o)) (counted t H s (folderAt t o .firm))))
 
     -- ---- roles
 
     -- a declared request has one of 64 rights
-    right-below : (q : Request) → declared t q ≡ true → right t q < 64
+    pub right-below : (q : Request) → declared t q ≡ true → right t q < 64
     unfolding right declared
     right-below (read s o) d = let k = folder-kind t ok o (and-right (personDeclared t s) _ d) in omega arith
     right-below (write s o) d = let k = folder-kind t ok o (and-right (personDeclared t s) _ d) in omega arith
@@ -218,18 +208,50 @@ module _ (t : Tables) (H : Request → Bool) (s : ℕ) where
           (decide (bit (roleAt t k .rights) x)))
           (or-cases (eqb x (right t r)) _ (sym (wanted-bit x) ∙ b)))
 
-      covers-at : (k : ℕ) → k < 32 → coversAt t (withBit rights (right t r % 64)) k ≡ roleDeclared t k && roleCovers t H r k
-      unfolding coversAt covers roleDeclared
+      -- a role that holds the new right is declared, since the rights of an undeclared one are empty
+      holds-declared : (k : ℕ) → k < 32 → bit (roleAt t k .rights) (right t r) ≡ true → roleDeclared t k ≡ true
+      unfolding roleDeclared
+      holds-declared k l b =
+          and-both _ _ (lt-ltb k 32 l)
+          (⊎-elim
+          (λ e. absurd (false-elim (bit 0 (right t r)) (bit-zero (right t r)) (rw e at b)))
+          (λ e. ap (λ (x : Role). x .declared) e)
+          (role-cases (roleAt t k) (given-entries t ok .roles k l)))
+
+      covers-at : (k : ℕ) → k < 32 → covers (roleAt t k .rights) (withBit rights (right t r % 64)) ≡ roleDeclared t k && roleCovers t H r k
+      unfolding covers roleCovers
       covers-at k l =
           bool-ext _ _
           (λ e.
-          let (d, sub) = both-taken (roleAt t k .declared) _ e in
-          and-both _ _ (and-both _ _ (lt-ltb k 32 l) d) (subset-covers k (eqb-true _ _ sub)))
-          (λ e.
-          let d = and-right (ltb k 32) _ (and-left (ltb k 32 && roleAt t k .declared) _ e) in
-          rw d (eq-eqb _ _ (covers-subset k (and-right (ltb k 32 && roleAt t k .declared) _ e))))
+          let c = subset-covers k (eqb-true _ _ e) in
+          and-both _ _ (holds-declared k l (and-left (bit (roleAt t k .rights) (right t r)) _ c)) c)
+          (λ e. eq-eqb _ _ (covers-subset k (and-right (roleDeclared t k) _ e)))
 
-      pub roles-by : rolesBy t (maskBelow 64 (used t H s)) (right t r) ≡ roles t H r
-      unfolding rolesBy roles rights
-      roles-by =
-          any-ext 32 (coversAt t (withBit rights (right t r % 64))) (λ k. roleDeclared t k && roleCovers t H r k) covers-at
+      pub roles-in : (own : List ℕ) (wanted : ℕ) → HasRoles t own → wanted ≡ withBit (maskBelow 64 (used t H s)) (right t r % 64)
+          → rolesIn own wanted ≡ roles t H r
+      unfolding rolesIn roles rights
+      roles-in own wanted has e =
+          any-ext 32 (λ k. covers (getD own k 0) wanted) (λ k. roleDeclared t k && roleCovers t H r k)
+          (λ k l. ap₂ covers (has .at k l) e ∙ covers-at k l)
+
+-- ---- the new right alone
+
+-- a role that holds the new right and others holds the new right
+covers-new : (own u x : ℕ) → x < 64 → covers own (withBit u x) ≡ true → covers own (withBit 0 x) ≡ true
+unfolding covers
+covers-new own u x l e =
+    let new : bit (withBit u x) x ≡ true = bit-with u x x ∙ or-left (eqb x x) _ (eq-eqb x x refl) in
+    let held = subset-bit (withBit u x) own x (eqb-true _ _ e) new in
+    eq-eqb _ _
+    (bit-subset 64 (withBit 0 x) own (with-lt 64 0 x (pow-pos 64) l) (λ k m b.
+    ⊎-elim (λ i. rw (eqb-true k x i) held) (λ z. absurd (false-elim (bit 0 k) (bit-zero k) z))
+    (or-cases (eqb k x) _ (sym (bit-with 0 x k) ∙ b))))
+
+-- where no role holds the new right, none holds it and others
+pub none-holds : (own : List ℕ) (u x : ℕ) → x < 64 → rolesIn own (withBit 0 x) ≡ false → rolesIn own (withBit u x) ≡ false
+unfolding rolesIn
+none-holds own u x l none =
+    false-intro (rolesIn own (withBit u x)) (λ e.
+    let (k, m, c) = any-some 32 (λ k. covers (getD own k 0) (withBit u x)) e in
+    false-elim (rolesIn own (withBit 0 x)) none
+    (some-any 32 (λ k. covers (getD own k 0) (withBit 0 x)) k m (covers-new (getD own k 0) u x l c)))

@@ -1,33 +1,40 @@
 -- The wall and the roles as the code computes them: over the set of firms that the wall counts for a person and the set of rights that the
--- person used.
-use Prim.Native.Nat.{ℕ, _%_}
-use mathlib.Core.Bool.{Bool, false, cond, not, _||_}
+-- person used, the sets of the firms of each class and the rights of the roles.
+use Prim.Native.Nat.{ℕ, _%_, _<_}
+use mathlib.Core.Path.{_≡_}
+use mathlib.Core.Bool.{Bool, _||_}
+use mathlib.Core.List.{List}
 use lib.Dec.{eqb}
 use lib.Bits.{bitAnd}
-use Rattle.bits.specs.Bits.{bit, withBit}
+use lib.ListN.{length, getD}
+use Rattle.bits.specs.Bits.{bit, maskBelow}
 use Rattle.bits.specs.Bounded.{anyBelow}
+use Rattle.policy.specs.declared.Folder.{Folder}
 use Rattle.policy.specs.declared.Tables.{Tables}
-use Rattle.policy.specs.Tables.{firmAt, folderAt, roleAt, classOf, isPublic}
+use Rattle.policy.specs.Tables.{firmAt, roleAt}
 
--- firm f, of this class, is in the set and of the other class
-unfoldable pub isRival : ℕ → ℕ → ℕ → ℕ → Bool
-isRival own firms f class = cond (eqb own class) (bit firms (f % 64)) false
+-- the firms of a class
+unfoldable pub firmsOf : Tables → ℕ → ℕ
+firmsOf t class = maskBelow 64 (λ f. eqb (firmAt t f .class) class)
 
-unfoldable pub rivalAmong : Tables → ℕ → ℕ → ℕ → Bool
-rivalAmong t firms class f = isRival (firmAt t f .class) firms f class
+-- the numbers are the firms of the 32 classes
+pub record HasClasses (t : Tables) (sets : List ℕ) : Type 0 where
+  pub size : length sets ≡ 32
+  pub at : (class : ℕ) → class < 32 → getD sets class 0 ≡ firmsOf t class
 
--- folder o is public, or its firm is in the set, or no firm of the set is of its class
-unfoldable pub wallBy : Tables → ℕ → ℕ → Bool
-wallBy t firms o =
-    isPublic t o || (bit firms (folderAt t o .firm % 64) || not (anyBelow 64 (rivalAmong t firms (classOf t o))))
+-- the numbers are the rights of the 32 roles
+pub record HasRoles (t : Tables) (rights : List ℕ) : Type 0 where
+  pub size : length rights ≡ 32
+  pub at : (k : ℕ) → k < 32 → getD rights k 0 ≡ roleAt t k .rights
 
--- a role, declared or not, holds all these rights
-unfoldable pub covers : Bool → ℕ → ℕ → Bool
-covers declared own rights = cond declared (eqb (bitAnd rights own) rights) false
+-- a folder is public, or no firm of its class is among those counted, or its own is
+unfoldable pub wallIn : Folder → ℕ → ℕ → Bool
+wallIn e counted class = e .public || (eqb (bitAnd counted class) 0 || bit counted (e .firm % 64))
 
-unfoldable pub coversAt : Tables → ℕ → ℕ → Bool
-coversAt t rights k = covers (roleAt t k .declared) (roleAt t k .rights) rights
+-- rights hold all that are wanted
+unfoldable pub covers : ℕ → ℕ → Bool
+covers rights wanted = eqb (bitAnd wanted rights) wanted
 
--- some role holds the rights used and the new one
-unfoldable pub rolesBy : Tables → ℕ → ℕ → Bool
-rolesBy t used right = anyBelow 32 (coversAt t (withBit used (right % 64)))
+-- some role holds all that are wanted
+unfoldable pub rolesIn : List ℕ → ℕ → Bool
+rolesIn roles wanted = anyBelow 32 (λ k. covers (getD roles k 0) wanted)

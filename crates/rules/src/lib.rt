@@ -1,68 +1,78 @@
-// The wall and the roles (document 01, "Four rules", and document 02, Point 1), over the tables and the sets of what a person did.
+// The wall and the roles (document 01, "Four rules", and document 02, Point 1), over sets: the firms of a class, the rights of the roles,
+// the firms that the wall counts for a person and the rights that the person used.
 ghost use mathlib.Core.Path.{_≡_};
 ghost use mathlib.Core.Bool.{true};
-ghost use Rattle.policy.specs.Tables.{folderDeclared};
+ghost use Prim.Native.Nat.{_≤_};
+ghost use lib.Dec.{ltb};
 ghost use Rattle.policy.specs.Rulebook.{given};
-ghost use Rattle.packed.specs.Packed.{tablesOf};
-ghost use Rattle.rules.specs.Sets.{isRival, wallBy, covers, rolesBy};
-use packed::Words;
-use policy::Firm;
-use policy::Role;
+ghost use Rattle.rules.specs.Sets.{HasClasses, HasRoles, wallIn, covers as coversAll, rolesIn};
+use policy::Folder;
+use policy::Tables;
 
-// Whether firm f, which has this entry, is one of the firms and of the class.
-fn is_rival(e: Firm, firms: u64, f: usize, class: u8) -> bool
-    ensures { λ r. ⌜ r ≡ isRival (e .class) firms f class ⌝ }
+// The set of the firms of each class.
+pub fn classes(t: Tables) -> [u64; 32]
+    requires { ⌜ given t ≡ true ⌝ }
+    ensures { λ r. ⌜ HasClasses t r ⌝ }
 {
-    if e.class == class {
-        bits::bit64(firms, f)
-    } else {
-        false
-    }
-}
-
-// Whether the wall permits a person, for whom it counts these firms, an access to folder o. A public folder is passed.
-pub fn wall_permits(t: &Words, firms: u64, o: usize) -> bool
-    requires { ⌜ (given (tablesOf (now t)) ≡ true) × (folderDeclared (tablesOf (now t)) o ≡ true) ⌝ }
-    ensures { λ r. ⌜ r ≡ wallBy (tablesOf (now (t .entry))) firms o ⌝ }
-{
-    let e = packed::folder(t, o);
-    if e.public {
-        return true;
-    }
-    let firm = bits::wide(e.firm);
-    if bits::bit64(firms, firm) {
-        return true;
-    }
-    let own = packed::firm(t, firm);
-    let class = own.class;
+    let mut sets: [u64; 32] = [0; 32];
     for f in 0..64 {
-        if is_rival(packed::firm(t, f), firms, f, class) {
-            return false;
-        }
+        let class = bits::wide(t.firms[f].class);
+        sets[class] = bits::with_bit64(sets[class], f);
     }
-    true
+    sets
 }
 
-// Whether a role is declared and holds all these rights.
-fn covers_all(e: Role, rights: u64) -> bool
-    ensures { λ r. ⌜ r ≡ covers (e .declared) (e .rights) rights ⌝ }
+// Whether the wall permits a person, for whom it counts these firms, an access to a folder, where `class` are the firms of the folder's
+// class. A public folder is passed.
+pub fn wall_permits(folder: Folder, counted: u64, class: u64) -> bool
+    ensures { λ r. ⌜ r ≡ wallIn folder counted class ⌝ }
 {
-    if e.declared {
-        rights & e.rights == rights
-    } else {
-        false
+    if folder.public {
+        return true;
     }
+    if counted & class == 0 {
+        return true;
+    }
+    bits::bit64(counted, bits::wide(folder.firm))
 }
 
-// Whether some role holds the rights used and the new one.
-pub fn roles_permit(t: &Words, used: u64, right: usize) -> bool
-    ensures { λ r. ⌜ r ≡ rolesBy (tablesOf (now (t .entry))) used right ⌝ }
+// The rights of each role.
+pub fn role_rights(t: Tables) -> [u64; 32]
+    ensures { λ r. ⌜ HasRoles t r ⌝ }
 {
-    let rights = bits::with_bit64(used, right);
+    let mut rights: [u64; 32] = [0; 32];
     for k in 0..32 {
-        if covers_all(packed::role(t, k), rights) {
-            return true;
+        rights[k] = t.roles[k].rights;
+    }
+    rights
+}
+
+// Whether a role that has these rights holds all that are wanted.
+fn covers(rights: u64, wanted: u64) -> bool
+    ensures { λ r. ⌜ r ≡ coversAll rights wanted ⌝ }
+{
+    wanted & rights == wanted
+}
+
+// The lowest role that holds all the rights wanted; 32 where none does.
+fn lowest_role(roles: &[u64; 32], wanted: u64) -> usize
+    ensures { λ r. ⌜ (r ≤ 32) × (ltb r 32 ≡ rolesIn (now (roles .entry)) wanted) ⌝ }
+{
+    for k in 0..32 {
+        if covers(roles[k], wanted) {
+            return k;
         }
     }
-    false
+    32
+}
+
+// A role that holds all the rights wanted; 32 where none does. The role that is likely to is looked at first.
+pub fn covering_role(roles: &[u64; 32], wanted: u64, likely: usize) -> usize
+    ensures { λ r. ⌜ (r ≤ 32) × (ltb r 32 ≡ rolesIn (now (roles .entry)) wanted) ⌝ }
+{
+    let k = likely % 32;
+    if covers(roles[k], wanted) {
+        return k;
+    }
+    lowest_role(roles, wanted)
 }

@@ -1,3 +1,4 @@
-pub mod Puts
 pub mod Records
 pub mod Turns
+pub mod ClassOf
+pub mod PutAlone

@@ -13,12 +13,16 @@ use lib.ListN.{length, set, drop, length-append}
 use lib.Seq.{drop-cons, set-append-seam}
 use Rattle.bits.proofs.Booleans.{decide}
 use Rattle.policy.specs.declared.Tables.{Tables}
-use Rattle.policy.specs.Request.{Request, requestOf}
-use Rattle.policy.specs.Calls.{State, recordedIf, putState, putNumbers, putStates, callsOf, answersDue, grantedIn}
+use Rattle.policy.specs.Request.{Request, requestOf, setOf}
+use Rattle.policy.specs.Levels.{levelAt}
+use Rattle.policy.specs.Calls.{State, judgeWith, judgeNumber, recordedIf, putState, putNumbers, putStates, callsOf, answersDue, grantedIn}
 use Rattle.policy.proofs.Places.{size-recorded}
 use Rattle.policy.proofs.LevelBytes.{size-lowered}
 use Rattle.policy.proofs.Runs.{numbers-length, counted-once}
-use Rattle.judging.specs.Judging.{Ready}
+use Rattle.policy.proofs.Histories.{judge-with}
+use Rattle.request.specs.declared.Parsed.{Parsed}
+use Rattle.request.specs.Parsed.{asRequest, ParsedFrom}
+use Rattle.judging.specs.Judging.{Ready, numberFor}
 use Rattle.running.specs.Running.{runNumbers, Turned, Finished}
 use Rattle.running.proofs.Records.{calls-at, none-left, none-due}
 
@@ -41,6 +45,17 @@ pub ready-put : (t : Tables) (a : State) (bytes : List ℕ) → Ready t (a .hist
     → Ready t (putState t a bytes .history) (putState t a bytes .levels)
 unfolding putState
 ready-put t a bytes ready = recorded-ready t _ a (requestOf bytes) ready
+
+-- a turn by what is kept, and one alone, is a put of the bytes
+pub as-turned : {t : Tables} {a after : State} {bytes : List ℕ} {r : Parsed} {n : ℕ} → Ready t (a .history) (a .levels) → ParsedFrom bytes r
+    → n ≡ numberFor t (setOf (a .history)) (levelAt (a .levels)) (asRequest r) → after ≡ recordedIf t (eqb n 0) a (asRequest r)
+    → Turned t a bytes n (r .next) after
+unfolding putState numberFor judgeWith
+as-turned {t} {a} {after} {bytes} {r} {n} ready parsed number left =
+    let whole : n ≡ judgeNumber t a bytes =
+    number ∙ rw (parsed .request)
+    (sym (judge-with t a bytes (record { size = ready .size; held = ready .held; tables = ready .tables }))) in
+    record { judgedAs = whole; onward = parsed .onward; left = left ∙ rw (whole, parsed .request) }
 
 -- ---- the counts
 

@@ -1,17 +1,17 @@
--- What the functions of this crate give: a put of one request, one turn of a run, and a whole run.
-use Prim.Native.Nat.{ℕ}
+-- What the functions of this crate give: one turn of a run, and a whole run.
+use Prim.Native.Nat.{ℕ, _%_}
 use mathlib.Core.Path.{_≡_}
 use mathlib.Core.List.{List, _++_}
 use mathlib.Core.Option.{some}
-use lib.Dec.{eqb}
+use mathlib.Core.Bool.{true}
 use lib.ListN.{drop}
 use Rattle.policy.specs.declared.Tables.{Tables}
-use Rattle.policy.specs.Request.{Request, setOf}
-use Rattle.policy.specs.Levels.{levelAt}
+use Rattle.policy.specs.Tables.{folderAt}
+use Rattle.policy.specs.Request.{Request, hasPlace, recorded}
+use Rattle.policy.specs.Levels.{lowered}
 use Rattle.policy.specs.Calls.{
   State,
   judgeNumber,
-  recordedIf,
   putState,
   putNumbers,
   putStates,
@@ -20,13 +20,18 @@ use Rattle.policy.specs.Calls.{
   grantedIn,
   refusedIn,
 }
-use Rattle.request.specs.Parsed.{nextRecord}
-use Rattle.judging.specs.Judging.{judged}
+use Rattle.request.specs.declared.Parsed.{Parsed}
+use Rattle.request.specs.Parsed.{asRequest, nextRecord}
 
--- a put of a request: its number, and the history and the levels after it
-pub record Put (t : Tables) (before : State) (r : Request) (number : ℕ) (after : State) : Type 0 where
-  pub judgedAs : number ≡ judged t (setOf (before .history)) (levelAt (before .levels)) r
-  pub left : after ≡ recordedIf t (eqb number 0) before (some r)
+-- the numbers of a request are in range
+abbrev pub Fits : Parsed → Type 0
+Fits r = (q : Request) → asRequest r ≡ some q → hasPlace q ≡ true
+
+-- the history and the levels after a request, or none, was recorded, for all tables that give its folder this level; the folder's number is
+-- taken modulo 128, as where its entry is read
+pub record Recorded (h l : List ℕ) (r : Parsed) (level : ℕ) (h′ l′ : List ℕ) : Type 0 where
+  pub one : (t : Tables) (q : Request) → asRequest r ≡ some q → level ≡ folderAt t (r .target % 128) .level .0
+      → (h′ ≡ recorded h q) × (l′ ≡ lowered t l q)
 
 -- one put of a run: its number, how far on the next record stands, and the history and the levels after it
 pub record Turned (t : Tables) (before : State) (bytes : List ℕ) (number next : ℕ) (after : State) : Type 0 where

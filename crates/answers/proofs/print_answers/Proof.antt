@@ -3,7 +3,7 @@
 use Prim.Native.Nat.{_+_}
 use native.Mathlib.Omega.{arith}
 use lib.ListN.{length-take}
-use Rattle.monitor.proofs.CallLaws.{counts-fit}
+use Rattle.loaded.proofs.CallLaws.{counts-fit}
 use borrow.Author.Needs.{needs}
 use Rattle.answers.proofs.print_answers.Statement.{statement}
 use Rattle.answers.proofs.print_answers.Tie as tie

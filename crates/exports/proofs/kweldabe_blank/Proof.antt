@@ -1,12 +1,12 @@
 -- `kweldabe_blank` is `blankBy` and leaves `blankedBy` of what loading returned: nothing changes for a refused book, and otherwise
--- `monitor::blank` says both.
-use Rattle.exports.proofs.Books.{blank-refused, blank-loaded}
+-- `loaded::blank` says both.
+use Rattle.exports.proofs.Books.{loaded-tables, blank-refused, blank-loaded}
 use borrow.Author.Needs.{needs}
 use Rattle.exports.proofs.kweldabe_blank.Statement.{statement}
 use Rattle.exports.proofs.kweldabe_blank.Tie as tie
 use Rattle.exports.proofs.kweldabe_blank.Reads as reads
 use Rattle.exports.proofs.kweldabe_blank.Lts as lts
-use Rattle.monitor.proofs.blank.Reads as blank-reads
+use Rattle.loaded.proofs.blank.Reads as blank-reads
 use Rattle.monitor.proofs.load.Reads as load-reads
 
 load-requires : tie.Need-load-requires
@@ -16,7 +16,7 @@ returns : tie.Need-returns
 returns c = blank-refused (c .before .before .load .ensures) (c .if1 .taken) _
 
 blank-requires : tie.Need-blank-requires
-blank-requires c κs = search needs
+blank-requires c κs = loaded-tables _ (c .before .before .before .before .load .ensures) (c .before .before .if1 .left)
 
 same-length : tie.Need-same-length
 same-length c = search needs

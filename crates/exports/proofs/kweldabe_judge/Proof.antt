@@ -1,12 +1,12 @@
--- `kweldabe_judge` is `judgeBy` of what loading returned: a refused book's number, or what `monitor::judge` says by the loaded tables.
+-- `kweldabe_judge` is `judgeBy` of what loading returned: a refused book's number, or what `loaded::judge` says by the loaded tables.
 use mathlib.Core.Path.{_∙_}
-use Rattle.exports.proofs.Books.{judge-refused, judge-loaded}
+use Rattle.exports.proofs.Books.{loaded-tables, judge-refused, judge-loaded}
 use borrow.Author.Needs.{needs}
 use Rattle.exports.proofs.kweldabe_judge.Statement.{statement}
 use Rattle.exports.proofs.kweldabe_judge.Tie as tie
 use Rattle.exports.proofs.kweldabe_judge.Reads as reads
 use Rattle.exports.proofs.kweldabe_judge.Lts as lts
-use Rattle.monitor.proofs.judge.Reads as judge-reads
+use Rattle.loaded.proofs.judge.Reads as judge-reads
 use Rattle.monitor.proofs.load.Reads as load-reads
 
 load-requires : tie.Need-load-requires
@@ -16,7 +16,7 @@ returns : tie.Need-returns
 returns c = judge-refused (c .before .before .load .ensures) (c .if1 .taken) _ _
 
 judge-requires : tie.Need-judge-requires
-judge-requires c κs = search needs
+judge-requires c κs = loaded-tables _ (c .before .before .load .ensures) (c .if1 .left)
 
 returns-2 : tie.Need-returns-2
 returns-2 c = c .judge .ensures ∙ judge-loaded (c .before .before .before .load .ensures) (c .before .if1 .left) _ _

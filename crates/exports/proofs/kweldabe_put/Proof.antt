@@ -1,14 +1,14 @@
 -- `kweldabe_put` is `judgeBy` and leaves `putBy` of what loading returned: nothing changes for a refused book, and otherwise
--- `monitor::put` says both.
+-- `loaded::put` says both.
 use mathlib.Core.Path.{_∙_}
-use Rattle.exports.proofs.Books.{judge-refused, judge-loaded, put-refused, put-loaded}
+use Rattle.exports.proofs.Books.{loaded-tables, judge-refused, judge-loaded, put-refused, put-loaded}
 use borrow.Author.Needs.{needs}
 use Rattle.exports.proofs.kweldabe_put.Statement.{statement}
 use Rattle.exports.proofs.kweldabe_put.Tie as tie
 use Rattle.exports.proofs.kweldabe_put.Reads as reads
 use Rattle.exports.proofs.kweldabe_put.Lts as lts
 use Rattle.monitor.proofs.load.Reads as load-reads
-use Rattle.monitor.proofs.put.Reads as put-reads
+use Rattle.loaded.proofs.put.Reads as put-reads
 
 load-requires : tie.Need-load-requires
 load-requires c κs = search needs
@@ -20,7 +20,7 @@ returns c = (
 )
 
 put-requires : tie.Need-put-requires
-put-requires c κs = search needs
+put-requires c κs = loaded-tables _ (c .before .before .before .before .load .ensures) (c .before .before .if1 .left)
 
 same-length : tie.Need-same-length
 same-length c = search needs

@@ -1,6 +1,6 @@
--- `kweldabe_run` meets `RunBy` of what loading returned: nothing changes for a refused book, and otherwise `monitor::run` says all
+-- `kweldabe_run` meets `RunBy` of what loading returned: nothing changes for a refused book, and otherwise `loaded::run` says all
 -- three.
-use Rattle.exports.proofs.Books.{run-refused, run-loaded}
+use Rattle.exports.proofs.Books.{loaded-tables, run-refused, run-loaded}
 use borrow.Author.Needs.{needs}
 use Rattle.exports.proofs.kweldabe_run.Statement.{statement}
 use Rattle.exports.proofs.kweldabe_run.Tie as tie
@@ -8,7 +8,7 @@ use Rattle.exports.proofs.kweldabe_run.Reads as reads
 use Rattle.exports.proofs.kweldabe_run.Lts as lts
 use Rattle.exports.proofs.pack_run.Reads as pack-run-reads
 use Rattle.monitor.proofs.load.Reads as load-reads
-use Rattle.monitor.proofs.run.Reads as run-reads
+use Rattle.loaded.proofs.run.Reads as run-reads
 
 load-requires : tie.Need-load-requires
 load-requires c κs = search needs
@@ -20,7 +20,7 @@ returns : tie.Need-returns
 returns c = run-refused (c .before .before .before .load .ensures) (c .before .if1 .taken) _ _ _ _ (c .pack-run .ensures)
 
 run-requires : tie.Need-run-requires
-run-requires c κs = search needs
+run-requires c κs = loaded-tables _ (c .before .before .before .before .before .load .ensures) (c .before .before .before .if1 .left)
 
 pack-run-requires-2 : tie.Need-pack-run-requires-2
 pack-run-requires-2 c κs = search needs

@@ -1,14 +1,12 @@
--- `blank` is `blankNumber` and leaves `blankState`: nothing changes where `checked` refuses, and otherwise the history is all zero and the
--- levels are the first ones.
+-- `blank` gives what `checked` refuses its number, and leaves the rest to the call on tables that a load gives.
 use mathlib.Core.Path.{sym, _∙_}
-use Rattle.monitor.proofs.CallLaws.{passed-ready, blank-refused, blank-made}
+use Rattle.loaded.proofs.CallLaws.{passed-ready, blank-refused}
 use borrow.Author.Needs.{needs}
 use Rattle.monitor.proofs.blank.Statement.{statement}
 use Rattle.monitor.proofs.blank.Tie as tie
 use Rattle.monitor.proofs.blank.Reads as reads
 use Rattle.monitor.proofs.blank.Lts as lts
-use Rattle.history.proofs.blank.Reads as blank-reads
-use Rattle.levels.proofs.set_first.Reads as set-first-reads
+use Rattle.loaded.proofs.blank.Reads as blank-reads
 use Rattle.monitor.proofs.checked.Reads as checked-reads
 
 checked-requires : tie.Need-checked-requires
@@ -24,12 +22,7 @@ returns : tie.Need-returns
 returns c = blank-refused _ _ _ (c .before .checked .ensures) (c .if1 .taken)
 
 blank-requires : tie.Need-blank-requires
-blank-requires c κs = search needs
-
-set-first-requires : tie.Need-set-first-requires
-set-first-requires c κs =
-    let tested = c .before .before .before .before .before in
-    passed-ready _ _ (sym (tested .before .checked .ensures) ∙ tested .if1 .left) .held
+blank-requires c κs = passed-ready _ _ (sym (c .before .before .before .checked .ensures) ∙ c .before .before .if1 .left) .tables
 
 same-length-3 : tie.Need-same-length-3
 same-length-3 c = search needs
@@ -38,11 +31,7 @@ same-length-4 : tie.Need-same-length-4
 same-length-4 c = search needs
 
 returns-2 : tie.Need-returns-2
-returns-2 c =
-    let stored = c .before .before in
-    let blanked = stored .before .before .before .before in
-    let tested = blanked .before .before in
-    blank-made _ _ _ (tested .before .checked .ensures) (tested .if1 .left) (blanked .blank .ensures) (stored .set-first .ensures)
+returns-2 c = search needs
 
 pub blank-spec : {M : Type 1} → statement M
 blank-spec =
@@ -53,7 +42,6 @@ blank-spec =
     same-length-2
     returns
     blank-requires
-    set-first-requires
     same-length-3
     same-length-4
     returns-2)

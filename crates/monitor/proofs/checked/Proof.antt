@@ -1,7 +1,8 @@
 -- `checked` is 10 for a history of another length, 20 for levels of another length, then 11 for tables that no load gives, and 0 where all
 -- three pass.
 use mathlib.Core.Path.{sym, _∙_}
-use Rattle.monitor.proofs.CallLaws.{wrong-length, wrong-levels, not-given, all-pass}
+use Rattle.loaded.proofs.CallLaws.{wrong-length, wrong-levels, all-pass}
+use Rattle.monitor.proofs.CallLaws.{not-given}
 use borrow.Author.Needs.{needs}
 use Rattle.monitor.proofs.checked.Statement.{statement}
 use Rattle.monitor.proofs.checked.Tie as tie

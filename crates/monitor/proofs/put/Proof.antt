@@ -1,14 +1,13 @@
--- `put` is `judgeNumber` and leaves `putState`: nothing changes where `checked` refuses, and otherwise `running` says both.
+-- `put` gives what `checked` refuses its number, and leaves the rest to the call on tables that a load gives.
 use mathlib.Core.Path.{sym, _∙_}
-use Rattle.monitor.proofs.CallLaws.{passed-ready, judge-refused, put-refused}
+use Rattle.loaded.proofs.CallLaws.{passed-ready, judge-refused, put-refused}
 use borrow.Author.Needs.{needs}
 use Rattle.monitor.proofs.put.Statement.{statement}
 use Rattle.monitor.proofs.put.Tie as tie
 use Rattle.monitor.proofs.put.Reads as reads
 use Rattle.monitor.proofs.put.Lts as lts
+use Rattle.loaded.proofs.put.Reads as put-reads
 use Rattle.monitor.proofs.checked.Reads as checked-reads
-use Rattle.packing.proofs.pack.Reads as pack-reads
-use Rattle.running.proofs.put_next.Reads as put-next-reads
 
 checked-requires : tie.Need-checked-requires
 checked-requires c κs = search needs
@@ -20,19 +19,11 @@ same-length-2 : tie.Need-same-length-2
 same-length-2 c = search needs
 
 returns : tie.Need-returns
-returns c = (
-  judge-refused _ _ _ (c .before .checked .result) (c .before .checked .ensures) (c .if1 .taken),
-  put-refused _ _ _ (c .before .checked .result) (c .before .checked .ensures) (c .if1 .taken),
-)
+returns c =
+    (judge-refused _ _ _ _ (c .before .checked .ensures) (c .if1 .taken), put-refused _ _ _ _ (c .before .checked .ensures) (c .if1 .taken))
 
-pack-requires : tie.Need-pack-requires
-pack-requires c κs = search needs
-
-put-next-requires : tie.Need-put-next-requires
-put-next-requires c κs =
-    let packs = c .before .before .before in
-    let tested = packs .before in
-    rw (packs .pack .ensures) (passed-ready _ _ (sym (tested .before .checked .ensures) ∙ tested .if1 .left))
+put-requires : tie.Need-put-requires
+put-requires c κs = passed-ready _ _ (sym (c .before .before .before .checked .ensures) ∙ c .before .before .if1 .left) .tables
 
 same-length-3 : tie.Need-same-length-3
 same-length-3 c = search needs
@@ -41,10 +32,7 @@ same-length-4 : tie.Need-same-length-4
 same-length-4 c = search needs
 
 returns-2 : tie.Need-returns-2
-returns-2 c =
-    let put = c .before .before .before .before in
-    let turned = rw (put .before .before .before .before .pack .ensures) at (put .put-next .ensures) in
-    (turned .judgedAs, turned .left)
+returns-2 c = search needs
 
 pub put-spec : {M : Type 1} → statement M
 put-spec =
@@ -54,8 +42,7 @@ put-spec =
     same-length
     same-length-2
     returns
-    pack-requires
-    put-next-requires
+    put-requires
     same-length-3
     same-length-4
     returns-2)

@@ -6,26 +6,27 @@ use mathlib.Core.Bool.{false}
 use borrow.Author.Needs.{needs}
 use Rattle.bits.specs.Bounded.{anyBelow}
 use Rattle.bits.proofs.Bounds.{any-start, some-any, any-none}
-use Rattle.packed.specs.Packed.{tablesOf}
 use Rattle.pipeline.specs.Steps.{leadsAmong}
 use Rattle.pipeline.proofs.is_led_to.Statement.{statement}
 use Rattle.pipeline.proofs.is_led_to.Tie as tie
 use Rattle.pipeline.proofs.is_led_to.Reads as reads
 use Rattle.pipeline.proofs.is_led_to.Lts as lts
-use Rattle.packed.proofs.enabled.Reads as enabled-reads
 use Rattle.pipeline.proofs.leads_to.Reads as leads-to-reads
 
 abbrev Inv-loop : tie.InvT-loop
-Inv-loop t done q p₀ p = (p ≤ 16) × (anyBelow p (leadsAmong (tablesOf t .steps) done q) ≡ false)
+Inv-loop steps done q p₀ p = (p ≤ 16) × (anyBelow p (leadsAmong steps done q) ≡ false)
 
 abbrev μ-loop : tie.MeasureT-loop
-μ-loop t done q p₀ p = 16 - p
+μ-loop steps done q p₀ p = 16 - p
 
 loop-holds : tie.Need-loop-holds Inv-loop μ-loop
 loop-holds c = (search needs, any-start _)
 
-enabled-requires : tie.Need-enabled-requires Inv-loop μ-loop
-enabled-requires c κs = search needs
+mul-leads-to : tie.Need-mul-leads-to Inv-loop μ-loop
+mul-leads-to c = search needs
+
+element-copy-out-leads-to : tie.Need-element-copy-out-leads-to Inv-loop μ-loop
+element-copy-out-leads-to c = search needs
 
 leads-to-requires : tie.Need-leads-to-requires Inv-loop μ-loop
 leads-to-requires c κs = search needs
@@ -34,10 +35,7 @@ returns : tie.Need-returns Inv-loop μ-loop
 unfolding leadsAmong
 returns c =
     let loop = c .before .before .before .before .loop in
-    let enabled = c .before .before .enabled in
-    sym
-    (some-any 16 _ (loop .p) (omega arith)
-    (rw (← enabled .ensures) (sym (c .before .leads-to .ensures) ∙ c .if1 .taken)))
+    sym (some-any 16 _ (loop .p) (omega arith) (sym (c .before .leads-to .ensures) ∙ c .if1 .taken))
 
 add-p : tie.Need-add-p Inv-loop μ-loop
 add-p c = search needs
@@ -50,7 +48,7 @@ unfolding leadsAmong
 loop-again c = (
   search needs,
   any-none _ _ (c .before .before .before .before .loop .inv .1)
-      (rw (← c .before .before .enabled .ensures) (sym (c .before .leads-to .ensures) ∙ c .if1 .left)),
+      (sym (c .before .leads-to .ensures) ∙ c .if1 .left),
 )
 
 returns-2 : tie.Need-returns-2 Inv-loop μ-loop
@@ -65,7 +63,8 @@ is-led-to-spec =
     Inv-loop
     μ-loop
     loop-holds
-    enabled-requires
+    mul-leads-to
+    element-copy-out-leads-to
     leads-to-requires
     returns
     add-p

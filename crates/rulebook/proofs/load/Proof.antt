@@ -1,14 +1,22 @@
--- `load` keeps, from record to record, that the bytes left and the tables so far come to what the whole book comes to: `Left`. Each arm
--- stores what the record of its kind declares. The last arm is never reached: a record that passes has a known kind.
-use Prim.Native.Nat.{_-_, _<_}
-use mathlib.Core.Path.{_∙_}
+-- `load` keeps, from record to record, that the bytes left and the tables so far come to what the whole book comes to: `Left`. Where the
+-- arms of the first match meet, the number is that of the record by the definition; each arm of the second stores what the record of its
+-- kind declares. Its last arm is never reached: a record that passes has a known kind.
+use Prim.Native.Nat.{ℕ, suc, _-_, _<_}
+use mathlib.Core.List.{List}
+use mathlib.Core.Logic.{⊎-elim}
+use mathlib.Core.Bool.{true}
+use mathlib.Core.Path.{_≡_, refl, _∙_}
+use denote.Ref.{now}
 use lib.ListN.{length}
 use borrow.Author.Needs.{needs}
 use Rattle.bits.specs.Bits.{withBit}
-use Rattle.policy.specs.Rulebook.{lastKind, declare}
-use Rattle.rulebook.specs.Readings.{knownOf}
+use Rattle.policy.specs.declared.Tables.{Tables}
+use Rattle.policy.specs.Rulebook.{Record, lastKind, inRange, declare}
+use Rattle.rulebook.specs.declared.records.Reading.{Reading}
+use Rattle.rulebook.specs.Readings.{recordRead, ReadAt, numberOf}
 use Rattle.rulebook.proofs.TurnLaws.{within}
 use Rattle.rulebook.proofs.KindLaws.{past-last, too-high, is-rules, is-firm, is-person, is-folder, is-role, is-pair, is-public}
+use Rattle.rulebook.proofs.NumberLaws as laws
 use Rattle.rulebook.proofs.LoadLaws.{Left, starts, refused-is, ended-is, goes-by, less, whole}
 use Rattle.rulebook.proofs.load.Statement.{statement}
 use Rattle.rulebook.proofs.load.Tie as tie
@@ -19,6 +27,59 @@ Inv-loop book t₀ at₀ t at = Left book at t
 abbrev μ-loop : tie.MeasureT-loop
 μ-loop book t₀ at₀ t at = length book - at
 
+-- the arms for the number of a record have met
+abbrev Met : Type 0
+Met = tie.At-match-came Inv-loop μ-loop
+
+abbrev book : Met → List ℕ
+book met = now (met .before .before .before .before .before .before .before .args .book)
+
+abbrev at : Met → ℕ
+at met = met .before .before .before .before .loop .at
+
+abbrev tables : Met → Tables
+tables met = met .before .before .before .before .loop .t
+
+abbrev reading : Met → Reading
+reading met = met .before .before .before .read .result
+
+left : (met : Met) → Left (book met) (at met) (tables met)
+left met = met .before .before .before .before .loop .inv
+
+read : (met : Met) → ReadAt (book met) (at met) (reading met)
+read met = met .before .before .before .read .ensures
+
+number-is : (met : Met) → met .match .number ≡ numberOf (tables met) (reading met)
+number-is met =
+    let t = tables met in
+    let r = reading met in
+    ⊎-elim (λ w. w .2 ∙ w .1 .ensures ∙ laws.firm-number t r (read met) (w .0 .keys1))
+    (⊎-elim (λ w. w .2 ∙ w .1 .ensures ∙ laws.person-number t r (read met) (w .0 .keys2))
+    (⊎-elim (λ w. w .2 ∙ w .1 .ensures ∙ laws.folder-number t r (read met) (w .0 .keys3))
+    (⊎-elim (λ w. w .2 ∙ w .1 .ensures ∙ laws.role-number t r (read met) (w .0 .keys4))
+    (⊎-elim (λ w. w .3 ∙ w .2 .ensures ∙ laws.pair-number t r (read met) (w .0 .keys5))
+    (⊎-elim (λ w. w .2 ∙ w .1 .ensures ∙ laws.mark-number t r (read met) (w .0 .keys6))
+    (λ w.
+    let rest = w .0 .rest in
+    w .1
+    ∙ laws.other-number t r (r .kind) refl (rest .0 .0 .0 .0 .0 .1) (rest .0 .0 .0 .0 .1) (rest .0 .0 .0 .1) (rest .0 .0 .1) (rest .0 .1)
+    (rest .1)))))))
+    (met .match .came)
+
+-- the record has passed
+abbrev Passed : Type 0
+Passed = tie.Else1 Inv-loop μ-loop
+
+inside : (p : Passed) → inRange (recordRead (reading (p .before))) ≡ true
+inside p = read (p .before) .inside
+
+lessens : (p : Passed) → length (book (p .before)) - reading (p .before) .next < length (book (p .before)) - at (p .before)
+lessens p = less (left (p .before)) (read (p .before)) (number-is (p .before)) (p .if1 .left)
+
+goes : (p : Passed) (k : ℕ) (x : Record) → reading (p .before) .kind ≡ suc k → recordRead (reading (p .before)) ≡ x
+    → Left (book (p .before)) (reading (p .before) .next) (declare (tables (p .before)) x)
+goes p = goes-by (left (p .before)) (read (p .before)) (number-is (p .before)) (p .if1 .left)
+
 empty-requires : tie.Need-empty-requires Inv-loop μ-loop
 empty-requires c κs = search needs
 
@@ -28,99 +89,136 @@ loop-holds c = rw (c .empty .ensures) (starts _)
 read-requires : tie.Need-read-requires Inv-loop μ-loop
 read-requires c κs = search needs
 
-mul-entry : tie.Need-mul-entry Inv-loop μ-loop
-mul-entry c = search needs
+cast-own : tie.Need-cast-own Inv-loop μ-loop
+cast-own c = search needs
 
-element-copy-out-entry : tie.Need-element-copy-out-entry Inv-loop μ-loop
-element-copy-out-entry c = search needs
+cast-named : tie.Need-cast-named Inv-loop μ-loop
+cast-named c = search needs
 
-mul-if1 : tie.Need-mul-if1 Inv-loop μ-loop
-mul-if1 c = search needs
+mul-declared-number : tie.Need-mul-declared-number Inv-loop μ-loop
+mul-declared-number c = search needs
 
-element-copy-out-if1 : tie.Need-element-copy-out-if1 Inv-loop μ-loop
-element-copy-out-if1 c = search needs
+element-copy-out-declared-number : tie.Need-element-copy-out-declared-number Inv-loop μ-loop
+element-copy-out-declared-number c = laws.firm-inside _ (c .before .before .before .read .ensures .inside) (c .match .keys1)
 
-mul-t22 : tie.Need-mul-t22 Inv-loop μ-loop
-mul-t22 c = search needs
+declared-number-requires : tie.Need-declared-number-requires Inv-loop μ-loop
+declared-number-requires c κs = search needs
 
-element-copy-out-t25 : tie.Need-element-copy-out-t25 Inv-loop μ-loop
-element-copy-out-t25 c = search needs
+mul-declared-number-2 : tie.Need-mul-declared-number-2 Inv-loop μ-loop
+mul-declared-number-2 c = search needs
 
-mul-t26 : tie.Need-mul-t26 Inv-loop μ-loop
-mul-t26 c = search needs
+element-copy-out-declared-number-2 : tie.Need-element-copy-out-declared-number-2 Inv-loop μ-loop
+element-copy-out-declared-number-2 c = laws.person-inside _ (c .before .before .before .read .ensures .inside) (c .match .keys2)
 
-element-copy-out-t29 : tie.Need-element-copy-out-t29 Inv-loop μ-loop
-element-copy-out-t29 c = search needs
+declared-number-requires-2 : tie.Need-declared-number-requires-2 Inv-loop μ-loop
+declared-number-requires-2 c κs = search needs
 
-mul-t30 : tie.Need-mul-t30 Inv-loop μ-loop
-mul-t30 c = search needs
+mul-folder-number : tie.Need-mul-folder-number Inv-loop μ-loop
+mul-folder-number c = search needs
 
-element-copy-out-t33 : tie.Need-element-copy-out-t33 Inv-loop μ-loop
-element-copy-out-t33 c = search needs
+element-copy-out-folder-number : tie.Need-element-copy-out-folder-number Inv-loop μ-loop
+element-copy-out-folder-number c = laws.folder-inside _ (c .before .before .before .read .ensures .inside) (c .match .keys3)
 
-record-number-requires : tie.Need-record-number-requires Inv-loop μ-loop
-record-number-requires c κs = search needs
+mul-folder-number-2 : tie.Need-mul-folder-number-2 Inv-loop μ-loop
+mul-folder-number-2 c = search needs
+
+element-copy-out-folder-number-2 : tie.Need-element-copy-out-folder-number-2 Inv-loop μ-loop
+element-copy-out-folder-number-2 c = laws.owner-inside _ (c .before .before .before .read .ensures .inside) (c .match .keys3)
+
+folder-number-requires : tie.Need-folder-number-requires Inv-loop μ-loop
+folder-number-requires c κs = search needs
+
+mul-declared-number-3 : tie.Need-mul-declared-number-3 Inv-loop μ-loop
+mul-declared-number-3 c = search needs
+
+element-copy-out-declared-number-3 : tie.Need-element-copy-out-declared-number-3 Inv-loop μ-loop
+element-copy-out-declared-number-3 c = laws.role-inside _ (c .before .before .before .read .ensures .inside) (c .match .keys4)
+
+declared-number-requires-3 : tie.Need-declared-number-requires-3 Inv-loop μ-loop
+declared-number-requires-3 c κs = search needs
+
+mul-pair-number : tie.Need-mul-pair-number Inv-loop μ-loop
+mul-pair-number c = search needs
+
+element-copy-out-pair-number : tie.Need-element-copy-out-pair-number Inv-loop μ-loop
+element-copy-out-pair-number c = laws.step-inside _ (c .before .before .before .read .ensures .inside) (c .match .keys5)
+
+pair-number-requires : tie.Need-pair-number-requires Inv-loop μ-loop
+pair-number-requires c κs = search needs
+
+mul-mark-number : tie.Need-mul-mark-number Inv-loop μ-loop
+mul-mark-number c = search needs
+
+element-copy-out-mark-number : tie.Need-element-copy-out-mark-number Inv-loop μ-loop
+element-copy-out-mark-number c = laws.public-inside _ (c .before .before .before .read .ensures .inside) (c .match .keys6)
+
+mul-mark-number-2 : tie.Need-mul-mark-number-2 Inv-loop μ-loop
+mul-mark-number-2 c = search needs
+
+element-copy-out-mark-number-2 : tie.Need-element-copy-out-mark-number-2 Inv-loop μ-loop
+element-copy-out-mark-number-2 c = laws.public-inside _ (c .before .before .before .read .ensures .inside) (c .match .keys6)
+
+mark-number-requires : tie.Need-mark-number-requires Inv-loop μ-loop
+mark-number-requires c κs = search needs
 
 refuse-requires : tie.Need-refuse-requires Inv-loop μ-loop
 refuse-requires c κs = search needs
 
 returns : tie.Need-returns Inv-loop μ-loop
-unfolding knownOf
 returns c =
-    let turn = c .before .before .before .before .before in
-    c .refuse .ensures
-    ∙ refused-is (turn .before .loop .inv) (turn .read .ensures) (c .before .before .record-number .ensures) (c .before .if1 .taken)
+    let met = c .before .before in
+    c .refuse .ensures ∙ refused-is (left met) (read met) (number-is met) (c .before .if1 .taken)
 
 finish-requires : tie.Need-finish-requires Inv-loop μ-loop
 finish-requires c κs = search needs
 
 returns-2 : tie.Need-returns-2 Inv-loop μ-loop
-unfolding knownOf
 returns-2 c =
-    let passed = c .before .before in
-    let turn = passed .before .before .before .before in
+    let met = c .before .before .before in
     c .finish .ensures
-    ∙ ended-is (turn .before .loop .inv) (turn .read .ensures) (passed .before .record-number .ensures) (passed .if1 .left)
-    (c .before .match .keys1)
+    ∙ ended-is (left met) (read met) (number-is met) (c .before .before .if1 .left) (c .before .match2 .keys1)
 
 new-firm-requires : tie.Need-new-firm-requires Inv-loop μ-loop
 new-firm-requires c κs = search needs
 
-mul-t36 : tie.Need-mul-t36 Inv-loop μ-loop
-mul-t36 c = search needs
+mul-t45 : tie.Need-mul-t45 Inv-loop μ-loop
+mul-t45 c = search needs
 
 element-set-from-t : tie.Need-element-set-from-t Inv-loop μ-loop
-element-set-from-t c = search needs
+element-set-from-t c = laws.firm-inside _ (inside (c .before .before)) (c .before .match2 .keys3)
 
 new-person-requires : tie.Need-new-person-requires Inv-loop μ-loop
 new-person-requires c κs = search needs
 
-mul-t40 : tie.Need-mul-t40 Inv-loop μ-loop
-mul-t40 c = search needs
+mul-t49 : tie.Need-mul-t49 Inv-loop μ-loop
+mul-t49 c = search needs
 
 element-set-from-t-2 : tie.Need-element-set-from-t-2 Inv-loop μ-loop
-element-set-from-t-2 c = search needs
-
-cast-new-folder : tie.Need-cast-new-folder Inv-loop μ-loop
-cast-new-folder c = search needs
+element-set-from-t-2 c = laws.person-inside _ (inside (c .before .before)) (c .before .match2 .keys4)
 
 new-folder-requires : tie.Need-new-folder-requires Inv-loop μ-loop
 new-folder-requires c κs = search needs
 
-mul-t45 : tie.Need-mul-t45 Inv-loop μ-loop
-mul-t45 c = search needs
+mul-t53 : tie.Need-mul-t53 Inv-loop μ-loop
+mul-t53 c = search needs
 
 element-set-from-t-3 : tie.Need-element-set-from-t-3 Inv-loop μ-loop
-element-set-from-t-3 c = search needs
+element-set-from-t-3 c = laws.folder-inside _ (inside (c .before .before)) (c .before .match2 .keys5)
 
 new-role-requires : tie.Need-new-role-requires Inv-loop μ-loop
 new-role-requires c κs = search needs
 
-mul-t49 : tie.Need-mul-t49 Inv-loop μ-loop
-mul-t49 c = search needs
+mul-t57 : tie.Need-mul-t57 Inv-loop μ-loop
+mul-t57 c = search needs
 
 element-set-from-t-4 : tie.Need-element-set-from-t-4 Inv-loop μ-loop
-element-set-from-t-4 c = search needs
+element-set-from-t-4 c = laws.role-inside _ (inside (c .before .before)) (c .before .match2 .keys6)
+
+mul-with-bit16 : tie.Need-mul-with-bit16 Inv-loop μ-loop
+mul-with-bit16 c = search needs
+
+element-copy-out-with-bit16 : tie.Need-element-copy-out-with-bit16 Inv-loop μ-loop
+element-copy-out-with-bit16 c = laws.step-inside _ (inside (c .before)) (c .match2 .keys7)
 
 with-bit16-requires : tie.Need-with-bit16-requires Inv-loop μ-loop
 with-bit16-requires c κs = search needs
@@ -129,151 +227,98 @@ mul-t : tie.Need-mul-t Inv-loop μ-loop
 mul-t c = search needs
 
 element-write-t : tie.Need-element-write-t Inv-loop μ-loop
-element-write-t c = search needs
+element-write-t c = laws.step-inside _ (inside (c .before .before .before)) (c .before .before .match2 .keys7)
+
+mul-made-public : tie.Need-mul-made-public Inv-loop μ-loop
+mul-made-public c = search needs
+
+element-copy-out-made-public : tie.Need-element-copy-out-made-public Inv-loop μ-loop
+element-copy-out-made-public c = laws.public-inside _ (inside (c .before)) (c .match2 .keys8)
 
 made-public-requires : tie.Need-made-public-requires Inv-loop μ-loop
 made-public-requires c κs = search needs
 
-mul-t57 : tie.Need-mul-t57 Inv-loop μ-loop
-mul-t57 c = search needs
+mul-t73 : tie.Need-mul-t73 Inv-loop μ-loop
+mul-t73 c = search needs
 
 element-set-from-t-5 : tie.Need-element-set-from-t-5 Inv-loop μ-loop
-element-set-from-t-5 c = search needs
+element-set-from-t-5 c = laws.public-inside _ (inside (c .before .before .before)) (c .before .before .match2 .keys8)
 
 refuse-requires-2 : tie.Need-refuse-requires-2 Inv-loop μ-loop
 refuse-requires-2 c κs = search needs
 
 returns-3 : tie.Need-returns-3 Inv-loop μ-loop
-unfolding knownOf
 returns-3 c =
-    let passed = c .before .before in
-    let turn = passed .before .before .before .before in
-    let rest = c .before .match .rest in
-    let here = whole (turn .before .loop .inv) (turn .read .ensures) (passed .before .record-number .ensures) (passed .if1 .left) in
-    let above : lastKind < turn .read .result .kind =
+    let met = c .before .before .before in
+    let rest = c .before .match2 .rest in
+    let here = whole (left met) (read met) (number-is met) (c .before .before .if1 .left) in
+    let above : lastKind < reading met .kind =
     past-last _ (rest .0 .0 .0 .0 .0 .0 .0 .1) (rest .0 .0 .0 .0 .0 .0 .1) (rest .0 .0 .0 .0 .0 .1) (rest .0 .0 .0 .0 .1)
     (rest .0 .0 .0 .1) (rest .0 .0 .1) (rest .0 .1) (rest .1) in
     let none : ⊥ = too-high (here .known) (here .same-kind) above in
     absurd none
 
 loop-less : tie.Need-loop-less Inv-loop μ-loop
-unfolding knownOf
-loop-less c =
-    let passed = c .before in
-    let turn = passed .before .before .before .before in
-    less (turn .before .loop .inv) (turn .read .ensures) (passed .before .record-number .ensures) (passed .if1 .left)
+loop-less c = lessens (c .before)
 
 loop-again : tie.Need-loop-again Inv-loop μ-loop
-unfolding knownOf declare
-loop-again c =
-    let passed = c .before in
-    let turn = passed .before .before .before .before in
-    let key = c .match .keys2 in
-    goes-by (turn .before .loop .inv) (turn .read .ensures) (passed .before .record-number .ensures) (passed .if1 .left) 0 _ key
-    (is-rules (turn .read .result) key)
+unfolding declare
+loop-again c = goes (c .before) 0 _ (c .match2 .keys2) (is-rules _ (c .match2 .keys2))
 
 loop-less-2 : tie.Need-loop-less-2 Inv-loop μ-loop
-unfolding knownOf
-loop-less-2 c =
-    let passed = c .before .before in
-    let turn = passed .before .before .before .before in
-    less (turn .before .loop .inv) (turn .read .ensures) (passed .before .record-number .ensures) (passed .if1 .left)
+loop-less-2 c = lessens (c .before .before)
 
 loop-again-2 : tie.Need-loop-again-2 Inv-loop μ-loop
-unfolding knownOf declare
+unfolding declare
 loop-again-2 c =
-    let passed = c .before .before in
-    let turn = passed .before .before .before .before in
-    let key = c .before .match .keys3 in
-    rw (c .new-firm .ensures)
-    (goes-by (turn .before .loop .inv) (turn .read .ensures) (passed .before .record-number .ensures) (passed .if1 .left) 1 _ key
-    (is-firm (turn .read .result) key))
+    let key = c .before .match2 .keys3 in
+    rw (c .new-firm .ensures) (goes (c .before .before) 1 _ key (is-firm _ key))
 
 loop-less-3 : tie.Need-loop-less-3 Inv-loop μ-loop
-unfolding knownOf
-loop-less-3 c =
-    let passed = c .before .before in
-    let turn = passed .before .before .before .before in
-    less (turn .before .loop .inv) (turn .read .ensures) (passed .before .record-number .ensures) (passed .if1 .left)
+loop-less-3 c = lessens (c .before .before)
 
 loop-again-3 : tie.Need-loop-again-3 Inv-loop μ-loop
-unfolding knownOf declare
+unfolding declare
 loop-again-3 c =
-    let passed = c .before .before in
-    let turn = passed .before .before .before .before in
-    let key = c .before .match .keys4 in
-    rw (c .new-person .ensures)
-    (goes-by (turn .before .loop .inv) (turn .read .ensures) (passed .before .record-number .ensures) (passed .if1 .left) 2 _ key
-    (is-person (turn .read .result) key))
+    let key = c .before .match2 .keys4 in
+    rw (c .new-person .ensures) (goes (c .before .before) 2 _ key (is-person _ key))
 
 loop-less-4 : tie.Need-loop-less-4 Inv-loop μ-loop
-unfolding knownOf
-loop-less-4 c =
-    let passed = c .before .before .before in
-    let turn = passed .before .before .before .before in
-    less (turn .before .loop .inv) (turn .read .ensures) (passed .before .record-number .ensures) (passed .if1 .left)
+loop-less-4 c = lessens (c .before .before)
 
 loop-again-4 : tie.Need-loop-again-4 Inv-loop μ-loop
-unfolding knownOf declare
+unfolding declare
 loop-again-4 c =
-    let passed = c .before .before .before in
-    let turn = passed .before .before .before .before in
-    let key = c .before .before .match .keys5 in
-    rw (c .new-folder .ensures)
-    (goes-by (turn .before .loop .inv) (turn .read .ensures) (passed .before .record-number .ensures) (passed .if1 .left) 3 _ key
-    (is-folder (turn .read .result) key))
+    let key = c .before .match2 .keys5 in
+    rw (c .new-folder .ensures) (goes (c .before .before) 3 _ key (is-folder _ key))
 
 loop-less-5 : tie.Need-loop-less-5 Inv-loop μ-loop
-unfolding knownOf
-loop-less-5 c =
-    let passed = c .before .before in
-    let turn = passed .before .before .before .before in
-    less (turn .before .loop .inv) (turn .read .ensures) (passed .before .record-number .ensures) (passed .if1 .left)
+loop-less-5 c = lessens (c .before .before)
 
 loop-again-5 : tie.Need-loop-again-5 Inv-loop μ-loop
-unfolding knownOf declare
+unfolding declare
 loop-again-5 c =
-    let passed = c .before .before in
-    let turn = passed .before .before .before .before in
-    let key = c .before .match .keys6 in
-    rw (c .new-role .ensures)
-    (goes-by (turn .before .loop .inv) (turn .read .ensures) (passed .before .record-number .ensures) (passed .if1 .left) 4 _ key
-    (is-role (turn .read .result) key))
+    let key = c .before .match2 .keys6 in
+    rw (c .new-role .ensures) (goes (c .before .before) 4 _ key (is-role _ key))
 
 loop-less-6 : tie.Need-loop-less-6 Inv-loop μ-loop
-unfolding knownOf
-loop-less-6 c =
-    let passed = c .before .before in
-    let turn = passed .before .before .before .before in
-    less (turn .before .loop .inv) (turn .read .ensures) (passed .before .record-number .ensures) (passed .if1 .left)
+loop-less-6 c = lessens (c .before .before .before)
 
 loop-again-6 : tie.Need-loop-again-6 Inv-loop μ-loop
-unfolding knownOf declare
+unfolding declare
 loop-again-6 c =
-    let passed = c .before .before in
-    let turn = passed .before .before .before .before in
-    let key = c .before .match .keys7 in
-    let r = turn .read .result in
-    rw (c .with-bit16 .ensures, within (withBit _) (r .q) 16 (turn .read .ensures .indexes .enabled))
-    (goes-by (turn .before .loop .inv) (turn .read .ensures) (passed .before .record-number .ensures) (passed .if1 .left) 5 _ key
-    (is-pair r key))
+    let key = c .before .before .match2 .keys7 in
+    rw (c .with-bit16 .ensures, within (withBit _) _ 16 (laws.enabled-inside _ (inside (c .before .before .before)) key))
+    (goes (c .before .before .before) 5 _ key (is-pair _ key))
 
 loop-less-7 : tie.Need-loop-less-7 Inv-loop μ-loop
-unfolding knownOf
-loop-less-7 c =
-    let passed = c .before .before in
-    let turn = passed .before .before .before .before in
-    less (turn .before .loop .inv) (turn .read .ensures) (passed .before .record-number .ensures) (passed .if1 .left)
+loop-less-7 c = lessens (c .before .before .before)
 
 loop-again-7 : tie.Need-loop-again-7 Inv-loop μ-loop
-unfolding knownOf declare
+unfolding declare
 loop-again-7 c =
-    let passed = c .before .before in
-    let turn = passed .before .before .before .before in
-    let key = c .before .match .keys8 in
-    rw (c .made-public .ensures)
-    (goes-by (turn .before .loop .inv) (turn .read .ensures) (passed .before .record-number .ensures) (passed .if1 .left) 6 _ key
-    (is-public (turn .read .result) key))
+    let key = c .before .before .match2 .keys8 in
+    rw (c .made-public .ensures) (goes (c .before .before .before) 6 _ key (is-public _ key))
 
 pub load-spec : {M : Type 1} → statement M
 load-spec =
@@ -284,39 +329,55 @@ load-spec =
     empty-requires
     loop-holds
     read-requires
-    mul-entry
-    element-copy-out-entry
-    mul-if1
-    element-copy-out-if1
-    mul-t22
-    element-copy-out-t25
-    mul-t26
-    element-copy-out-t29
-    mul-t30
-    element-copy-out-t33
-    record-number-requires
+    cast-own
+    cast-named
+    mul-declared-number
+    element-copy-out-declared-number
+    declared-number-requires
+    mul-declared-number-2
+    element-copy-out-declared-number-2
+    declared-number-requires-2
+    mul-folder-number
+    element-copy-out-folder-number
+    mul-folder-number-2
+    element-copy-out-folder-number-2
+    folder-number-requires
+    mul-declared-number-3
+    element-copy-out-declared-number-3
+    declared-number-requires-3
+    mul-pair-number
+    element-copy-out-pair-number
+    pair-number-requires
+    mul-mark-number
+    element-copy-out-mark-number
+    mul-mark-number-2
+    element-copy-out-mark-number-2
+    mark-number-requires
     refuse-requires
     returns
     finish-requires
     returns-2
     new-firm-requires
-    mul-t36
+    mul-t45
     element-set-from-t
     new-person-requires
-    mul-t40
+    mul-t49
     element-set-from-t-2
-    cast-new-folder
     new-folder-requires
-    mul-t45
+    mul-t53
     element-set-from-t-3
     new-role-requires
-    mul-t49
+    mul-t57
     element-set-from-t-4
+    mul-with-bit16
+    element-copy-out-with-bit16
     with-bit16-requires
     mul-t
     element-write-t
+    mul-made-public
+    element-copy-out-made-public
     made-public-requires
-    mul-t57
+    mul-t73
     element-set-from-t-5
     refuse-requires-2
     returns-3

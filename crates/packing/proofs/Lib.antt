@@ -1,3 +1,0 @@
-pub mod FillingLaws
-pub mod WordLaws
-pub mod PackingLaws
