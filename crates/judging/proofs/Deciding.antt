@@ -2,14 +2,16 @@
 -- not in force refuses nothing, so nothing needs to be known for it. Where the sets come from, the history of one request or what a run
 -- has kept, does not matter here.
 use Prim.Native.Nat.{ℕ, _+_, _%_, _<_}
-use mathlib.Core.Path.{_≡_, refl, sym, ap₂, _∙_}
+use native.Mathlib.Omega.{arith}
+use mathlib.Core.Path.{_≡_, refl, sym, ap, ap₂, _∙_}
 use mathlib.Core.Logic.{_≢_}
-use mathlib.Core.Bool.{Bool, true, false, cond}
+use mathlib.Core.Bool.{Bool, true, false, cond, _&&_, and-true}
 use mathlib.Core.List.{List}
 use Rattle.bits.specs.Bits.{bit, withBit, maskBelow}
 use Rattle.bits.specs.Bounded.{_implies_}
-use Rattle.bits.proofs.Booleans.{and-both}
+use Rattle.bits.proofs.Booleans.{and-both, false-elim}
 use Rattle.level.specs.declared.Comparison.{Comparison}
+use Rattle.level.specs.declared.Level.{Level}
 use Rattle.policy.specs.declared.Folder.{Folder}
 use Rattle.policy.specs.declared.Tables.{Tables}
 use Rattle.policy.specs.Tables.{folderAt, personDeclared, folderDeclared, inForce, wallRule, rolesRule, pipelineRule}
@@ -34,8 +36,18 @@ use Rattle.rules.proofs.SetLaws.{roles-in}
 use Rattle.pipeline.specs.Steps.{pipelineIn}
 use Rattle.pipeline.proofs.StepLaws.{pipeline-in}
 use Rattle.request.specs.Parsed.{accessBy}
-use Rattle.judging.specs.Judging.{outcomeIf, numberOf, accessRight, judged, AccessLike}
-use Rattle.judging.proofs.JudgingLaws.{refused-first, roles-decide, refused-three, passed-three, by-checks}
+use Rattle.judging.specs.declared.question.Question.{Question}
+use Rattle.judging.specs.Judging.{outcomeIf, numberOf, accessRight, judged}
+use Rattle.judging.specs.Posing.{accessAsks, startAsks, Posed}
+use Rattle.judging.proofs.JudgingLaws.{
+  implies-true,
+  refused-first,
+  roles-refuse,
+  roles-pass,
+  refused-three,
+  passed-three,
+  by-checks,
+}
 
 -- a rule that is in force says what its definition says; of another one nothing is known
 same-if : (on b b′ : Bool) → (on ≡ true → b ≡ b′) → (on implies b) ≡ (on implies b′)
@@ -153,81 +165,115 @@ module _ (t : Tables) (H : Request → Bool) (levels : ℕ → ℕ) (ok : given 
 
 -- ---- one request alone
 
--- an access that is judged alone: wall and low-water first, each as it is known, and then roles
-module _ {t : Tables} {H : Request → Bool} {levels : ℕ → ℕ} {s o : ℕ} {e : Folder} {x : ℕ} {modifies : Bool} {r : Request} {n stored : ℕ}
-    {w : Bool} (like : AccessLike t H levels s o e x modifies r) (walls : inForce t wallRule ≡ true → w ≡ wallAccess t H s o)
-    (level : stored ≡ levels s) (first : n ≡ numberOf (t .mask) w (outcomeIf modifies (e .level .0) stored) true true) where
-  first-is : n ≡ numberOf (t .mask) (wall t H r) (levelOutcome t levels r) true true
-  unfolding numberOf inForce
-  first-is =
-      first
-      ∙ rw (same-if (bit (t .mask) wallRule) w (wall t H r) (λ on. walls on ∙ sym (like .walled)), level, sym (like .levelled))
-
-  pub first-refuses : n ≢ 0 → n ≡ numberOf (t .mask) (wall t H r) (levelOutcome t levels r) (roles t H r) true
-  first-refuses other = sym (refused-first (t .mask) _ (roles t H r) true _ first-is other)
-
-  pub then-roles : {m : ℕ} → n ≡ 0 → m ≡ cond (inForce t rolesRule implies roles t H r) 0 16
-      → m ≡ numberOf (t .mask) (wall t H r) (levelOutcome t levels r) (roles t H r) true
+-- what a request asks is known: wall and low-water first, then roles, then the pipeline
+module _ {t : Tables} {H : Request → Bool} {levels : ℕ → ℕ} {s o p : ℕ} {q : Question} {r : Request} (posed : Posed t H levels s o p q r)
+    {n stored : ℕ} {w : Bool} (walls : w ≡ cond (q .access && bit (t .mask) wallRule) (wallAccess t H s o) true)
+    (level : stored ≡ levels s) (first : n ≡ numberOf (t .mask) w (outcomeIf (q .raises) (q .level .0) stored) true true) where
+  posed-wall : inForce t wallRule ≡ true → w ≡ wall t H r
   unfolding inForce
-  then-roles zero is = is ∙ sym (roles-decide (t .mask) _ (roles t H r) true _ (sym zero ∙ first-is))
+  posed-wall on =
+      walls ∙ ap (λ (b : Bool). cond b (wallAccess t H s o) true) (ap (λ (b : Bool). q .access && b) on ∙ and-true (q .access))
+      ∙ sym (posed .walled)
 
--- a read or a write, and a step, are judged as an access to their folder
-module _ (t : Tables) (H : Request → Bool) (levels : ℕ → ℕ) (s o : ℕ) {e : Folder} (person : personDeclared t s ≡ true)
-    (folder : folderDeclared t o ≡ true) (entry : e ≡ folderAt t o) where
-  pub access-like : (writes : Bool) {x : ℕ} → x ≡ accessRight writes (e .kind) → AccessLike t H levels s o e x writes (accessBy writes s o)
-  unfolding accessBy accessRight outcomeIf declared wall levelOutcome modifyOutcome right subject
-  access-like true uses =
-      record { parties = and-both _ _ person folder; person = refl; uses = uses ∙ rw entry; walled = refl; levelled = rw entry }
-  access-like false uses =
-      record { parties = and-both _ _ person folder; person = refl; uses = uses ∙ rw entry; walled = refl; levelled = refl }
+  decides : Decides t H levels r (t .mask) w (outcomeIf (q .raises) (q .level .0) stored) (roles t H r) (pipeline t H r)
+  decides =
+      record {
+        parties = posed .parties;
+        rules = refl;
+        wallSays = posed-wall;
+        outcome = rw level (sym (posed .levelled));
+        rolesSay = λ on. refl;
+        pipelineSays = λ on. refl;
+      }
 
-  pub step-like : (p : ℕ) → p < 16 → AccessLike t H levels s o e (48 + p) true (step s p o)
-  unfolding outcomeIf wall levelOutcome modifyOutcome right subject
-  step-like p below =
-      record { parties = step-declared t s p o person below folder; person = refl; uses = refl; walled = refl; levelled = rw entry }
+  pub first-refuses : n ≢ 0 → n ≡ judged t H levels r
+  first-refuses other = sym (refused-first (t .mask) w (roles t H r) (pipeline t H r) _ first other) ∙ whole decides
 
--- the whole number of a request of which the pipeline asks nothing
-module _ (t : Tables) (H : Request → Bool) (levels : ℕ → ℕ) where
-  without-pipeline : (r : Request) → declared t r ≡ true → pipeline t H r ≡ true
-      → numberOf (t .mask) (wall t H r) (levelOutcome t levels r) (roles t H r) true ≡ judged t H levels r
-  without-pipeline r d e = sym (by-checks t H levels r d ∙ rw e)
+  pub then-roles : n ≡ 0 → (bit (t .mask) rolesRule implies roles t H r) ≡ false → 16 ≡ judged t H levels r
+  then-roles zero off =
+      three-refuse decides (roles-refuse (t .mask) w (roles t H r) true _ (sym zero ∙ first) off) (λ e. let z : ⊥ = omega arith in z)
 
-  pub access-judged : (writes : Bool) (s o : ℕ) → declared t (accessBy writes s o) ≡ true
-      → numberOf (t .mask) (wall t H (accessBy writes s o)) (levelOutcome t levels (accessBy writes s o)) (roles t H (accessBy writes s
-      o)) true
-      ≡ judged t H levels (accessBy writes s o)
-  unfolding accessBy pipeline
-  access-judged true s o d = without-pipeline (write s o) d refl
-  access-judged false s o d = without-pipeline (read s o) d refl
+  then-pipeline : {x : ℕ} → n ≡ 0 → (bit (t .mask) rolesRule implies roles t H r) ≡ true
+      → x ≡ cond (bit (t .mask) pipelineRule implies pipeline t H r) 0 17 → x ≡ judged t H levels r
+  then-pipeline zero on is =
+      pipeline-decides decides (roles-pass (t .mask) w (roles t H r) true _ (sym zero ∙ first) on) refl is
 
-  -- a step: the pipeline after the others
-  module _ (s p o : ℕ) (d : declared t (step s p o) ≡ true) {n : ℕ}
-      (three : n ≡ numberOf (t .mask) (wall t H (step s p o)) (levelOutcome t levels (step s p o)) (roles t H (step s p o)) true) where
-    pub step-refused : n ≢ 0 → n ≡ judged t H levels (step s p o)
-    step-refused other = sym (by-checks t H levels (step s p o) d ∙ refused-three (t .mask) _ _ _ _ three other)
+  -- the pipeline is asked about the step
+  pub then-step : {x : ℕ} {permits : Bool} → n ≡ 0 → (bit (t .mask) rolesRule implies roles t H r) ≡ true → q .steps ≡ true
+      → permits ≡ pipelineStep t H p o → x ≡ cond (bit (t .mask) pipelineRule implies permits) 0 17 → x ≡ judged t H levels r
+  then-step zero on steps says is =
+      let same = says ∙ sym (posed .piped ∙ ap (λ (b : Bool). cond b (pipelineStep t H p o) true) steps) in
+      then-pipeline zero on (is ∙ ap (λ (b : Bool). cond (bit (t .mask) pipelineRule implies b) 0 17) same)
 
-    pub step-left : {x : ℕ} → n ≡ 0 → x ≡ cond (inForce t pipelineRule implies pipelineStep t H p o) 0 17 → x ≡ judged t H levels (step
-        s p o)
-    unfolding inForce pipeline
-    step-left zero e =
-        e ∙ sym (by-checks t H levels (step s p o) d ∙ passed-three (t .mask) _ _ (pipelineStep t H p o) _ (sym zero ∙ three))
+  -- it is not asked
+  pub then-granted : n ≡ 0 → (bit (t .mask) rolesRule implies roles t H r) ≡ true → q .steps && bit (t .mask) pipelineRule ≡ false
+      → 0 ≡ judged t H levels r
+  then-granted zero on off = then-pipeline zero on (sym (ap (λ (b : Bool). cond b 0 17) (unasked (q .steps) (posed .piped) off)))
+    where
+      unasked : (steps : Bool) → pipeline t H r ≡ cond steps (pipelineStep t H p o) true → steps && bit (t .mask) pipelineRule ≡ false
+          → (bit (t .mask) pipelineRule implies pipeline t H r) ≡ true
+      unasked true is n = rw n
+      unasked false is n = rw is (implies-true (bit (t .mask) pipelineRule))
 
-  -- a start: low-water and roles
-  module _ (s u : ℕ) (d : declared t (start s u) ≡ true) {n stored other : ℕ} (level : stored ≡ levels s) (second : other ≡ levels u)
-      (first : n ≡ numberOf (t .mask) true (outcomeIf true other stored) true true) where
-    start-first : n ≡ numberOf (t .mask) (wall t H (start s u)) (levelOutcome t levels (start s u)) true true
-    unfolding wall levelOutcome outcomeIf
-    start-first = first ∙ rw (level, second)
+-- ---- what each kind of request asks
 
-    start-whole : numberOf (t .mask) (wall t H (start s u)) (levelOutcome t levels (start s u)) (roles t H (start s u)) true
-        ≡ judged t H levels (start s u)
-    unfolding pipeline
-    start-whole = without-pipeline (start s u) d refl
+module _ (t : Tables) (H : Request → Bool) (levels : ℕ → ℕ) (s : ℕ) (known : personDeclared t s ≡ true) where
+  module _ (o : ℕ) {e : Folder} (folder : folderDeclared t o ≡ true) (entry : e ≡ folderAt t o) (p : ℕ) where
+    pub access-posed : (writes : Bool) {x : ℕ} → x ≡ accessRight writes (e .kind)
+        → Posed t H levels s o p (accessAsks (e .level) writes x false) (accessBy writes s o)
+    unfolding accessAsks accessBy accessRight outcomeIf declared wall levelOutcome modifyOutcome right subject pipeline
+    access-posed true uses =
+        record {
+          parties = and-both _ _ known folder;
+          person = refl;
+          known = known;
+          folder = λ on. folder;
+          walled = refl;
+          levelled = rw entry;
+          uses = uses ∙ rw entry;
+          stepped = λ on. absurd (false-elim false refl on);
+          piped = refl;
+        }
+    access-posed false uses =
+        record {
+          parties = and-both _ _ known folder;
+          person = refl;
+          known = known;
+          folder = λ on. folder;
+          walled = refl;
+          levelled = refl;
+          uses = uses ∙ rw entry;
+          stepped = λ on. absurd (false-elim false refl on);
+          piped = refl;
+        }
 
-    pub start-refused : n ≢ 0 → n ≡ judged t H levels (start s u)
-    start-refused other-than = sym (refused-first (t .mask) _ (roles t H (start s u)) true _ start-first other-than) ∙ start-whole
+    pub step-posed : p < 16 → Posed t H levels s o p (accessAsks (e .level) true (48 + p) true) (step s p o)
+    unfolding accessAsks outcomeIf wall levelOutcome modifyOutcome right subject pipeline
+    step-posed below =
+        record {
+          parties = step-declared t s p o known below folder;
+          person = refl;
+          known = known;
+          folder = λ on. folder;
+          walled = refl;
+          levelled = rw entry;
+          uses = refl;
+          stepped = λ on. (below, folder);
+          piped = refl;
+        }
 
-    pub start-left : {x : ℕ} → n ≡ 0 → x ≡ cond (inForce t rolesRule implies roles t H (start s u)) 0 16 → x ≡ judged t H levels (start s u)
-    unfolding inForce
-    start-left zero e =
-        e ∙ sym (roles-decide (t .mask) _ (roles t H (start s u)) true _ (sym zero ∙ start-first)) ∙ start-whole
+  pub start-posed : (u p : ℕ) {level : Level} → personDeclared t u ≡ true → level .0 ≡ levels u
+      → Posed t H levels s u p (startAsks level) (start s u)
+  unfolding startAsks outcomeIf declared wall levelOutcome right subject pipeline
+  start-posed u p second is =
+      record {
+        parties = and-both _ _ known second;
+        person = refl;
+        known = known;
+        folder = λ on. absurd (false-elim false refl on);
+        walled = refl;
+        levelled = rw is;
+        uses = refl;
+        stepped = λ on. absurd (false-elim false refl on);
+        piped = refl;
+      }

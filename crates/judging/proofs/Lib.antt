@@ -1,3 +1,5 @@
 pub mod JudgingLaws
 pub mod Deciding
 pub mod AskingLaws
+pub mod Posings
+pub mod RoleRights

@@ -10,15 +10,14 @@ use Rattle.bits.specs.Bounded.{_implies_}
 use Rattle.level.specs.declared.Comparison.{Comparison}
 use Rattle.level.specs.declared.Comparison.the-variants.{AtMost}
 use Rattle.level.specs.Levels.{compareOf, isAtMost}
-use Rattle.policy.specs.declared.Folder.{Folder}
 use Rattle.policy.specs.declared.Tables.{Tables}
 use Rattle.policy.specs.Checks.{_else_, ladder}
-use Rattle.policy.specs.Tables.{inForce, wallRule, lowWaterRule, rolesRule, pipelineRule}
+use Rattle.policy.specs.Tables.{wallRule, lowWaterRule, rolesRule, pipelineRule}
 use Rattle.policy.specs.Rulebook.{given}
 use Rattle.policy.specs.History.{historyBytes}
 use Rattle.policy.specs.Request.{Request, subject}
 use Rattle.policy.specs.Levels.{levelsBytes}
-use Rattle.policy.specs.Rules.{declared, right, wall, wallAccess, levelOutcome, roles}
+use Rattle.policy.specs.Rules.{declared, right, roles}
 use Rattle.policy.specs.Calls.{outcomeNumber, requestChecks}
 
 -- what the calls have checked: tables that a load gives, and a history and levels of the right lengths
@@ -52,23 +51,6 @@ numberFor t H levels r = ladder (requestChecks t H levels r)
 abbrev pub judged : Tables → (Request → Bool) → (ℕ → ℕ) → Request → ℕ
 judged t H levels r = numberFor t H levels (some r)
 
--- the number of roles, for every request of person s that uses a right
-abbrev pub RolesNumber : Tables → (Request → Bool) → ℕ → ℕ → ℕ → Type 0
-RolesNumber t H s x number =
-    (r : Request) → declared t r ≡ true → subject r ≡ s → x ≡ right t r → number ≡ cond (inForce t rolesRule implies roles t H r) 0 16
-
--- a request of person s that is judged as an access to folder o, with the folder's entry: a read, a write or a step
-pub record AccessLike (t : Tables) (H : Request → Bool) (levels : ℕ → ℕ) (s o : ℕ) (e : Folder) (x : ℕ) (modifies : Bool) (r : Request)
-    : Type 0
-  where
-    pub parties : declared t r ≡ true
-    pub person : subject r ≡ s
-    pub uses : x ≡ right t r
-    pub walled : wall t H r ≡ wallAccess t H s o
-    pub levelled : levelOutcome t levels r ≡ outcomeIf modifies (e .level .0) (levels s)
-
--- the number of wall, low-water and roles, for every such request
-abbrev pub JudgedAccess : Tables → (Request → Bool) → (ℕ → ℕ) → ℕ → ℕ → Folder → ℕ → Bool → ℕ → Type 0
-JudgedAccess t H levels s o e x modifies number =
-    (r : Request) → AccessLike t H levels s o e x modifies r
-    → number ≡ numberOf (t .mask) (wall t H r) (levelOutcome t levels r) (roles t H r) true
+-- whether roles permit a right, for every request of person s that uses it
+abbrev pub RolesPermit : Tables → (Request → Bool) → ℕ → ℕ → Bool → Type 0
+RolesPermit t H s x permits = (r : Request) → declared t r ≡ true → subject r ≡ s → x ≡ right t r → permits ≡ roles t H r

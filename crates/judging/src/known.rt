@@ -2,14 +2,11 @@
 // and what was done on its folder. Judge, put and run share these functions; they differ in how they come to know the sets.
 ghost use mathlib.Core.Path.{_≡_};
 ghost use mathlib.Core.Bool.{true, cond};
-ghost use Prim.Native.Nat.{_%_, _≤_};
-ghost use lib.Dec.{ltb};
-ghost use Rattle.bits.specs.Bits.{bit, withBit};
+ghost use Rattle.bits.specs.Bits.{bit};
 ghost use Rattle.bits.specs.Bounded.{_implies_};
 ghost use Rattle.level.specs.Levels.{compareOf};
-ghost use Rattle.policy.specs.Tables.{wallRule, lowWaterRule, rolesRule, pipelineRule};
+ghost use Rattle.policy.specs.Tables.{wallRule, lowWaterRule, pipelineRule};
 ghost use Rattle.policy.specs.Calls.{outcomeNumber};
-ghost use Rattle.rules.specs.Sets.{rolesIn};
 ghost use Rattle.pipeline.specs.Steps.{pipelineIn};
 ghost use Rattle.judging.specs.Judging.{outcomeIf, accessRight, numberOf};
 use level::Comparison;
@@ -59,18 +56,6 @@ pub fn first_number(mask: u8, wall: bool, asks: bool, level: Level, stored: Leve
         return numbers::WALL;
     }
     level_number(mask, asks, level, stored)
-}
-
-// A role that holds the rights used and the new one; 32 where none does. Where roles are not in force, any role will do.
-pub fn role_for(mask: u8, roles: &[u64; 32], used: u64, right: usize, likely: usize) -> usize
-    ensures { λ r. ⌜
-        (r ≤ 32) × (ltb r 32 ≡ (bit mask rolesRule implies rolesIn (now (roles .entry)) (withBit used (right % 64))))
-        ⌝ }
-{
-    if !bits::bit8(mask, policy::ROLES_RULE) {
-        return 0;
-    }
-    rules::covering_role(roles, bits::with_bit64(used, right), likely)
 }
 
 // The right that a read of a folder of a kind uses, or a write.

@@ -1,263 +1,157 @@
--- A granted request changes what is kept as it changes what the set gives: with one request more, a person did what the person did before,
--- with the request's right and firm, and on its folder one step more is done (policy, OneMore). Every other place stays as it was.
-use Prim.Native.Nat.{ℕ, _+_, _%_, _<_}
+-- With one request more in the set, what is kept of its person and of its folder changes as what the set gives does (policy, OneMore): a
+-- firm more, fewer roles that hold all rights, a step more; and every other place stays as it was.
+use Prim.Native.Nat.{ℕ, _+_, _%_, _^_, _<_}
+use native.Mathlib.Nat.{mod-eq-of-lt, lt-of-le-of-lt}
 use native.Mathlib.Omega.{arith}
-use mathlib.Core.Path.{_≡_, refl, sym, ap, _∙_}
-use mathlib.Core.Logic.{_≢_, ⊎-elim}
+use mathlib.Core.Path.{_≡_, refl, sym, ap, ap₂, _∙_}
+use mathlib.Core.Logic.{⊎-elim}
 use mathlib.Core.Bool.{Bool, true, false, cond, not, _&&_, _||_}
 use mathlib.Core.List.{List}
-use lib.Dec.{eqb}
+use lib.Dec.{eqb, ltb}
+use lib.Bits.{bitAnd, and-le-l, or-zero-r}
 use lib.ListN.{length, getD, set, length-set}
-use lib.Seq.{getD-set-same, getD-set-other}
-use borrow.Author.Tests.{eqb-true, eqb-false}
+use lib.Seq.{getD-set-same, getD-set-other, set-getD}
+use borrow.Author.Tests.{eqb-true, eqb-false, eq-eqb, lt-ltb}
 use Rattle.bits.specs.Bits.{bit, withBit, maskBelow}
-use Rattle.bits.proofs.Booleans.{decide}
-use Rattle.bits.proofs.Masks.{mask-ext, mask-with}
+use Rattle.bits.specs.Bounded.{anyBelow}
+use Rattle.bits.proofs.Booleans.{decide, and-left, and-right, and-both, bool-ext, or-cases, or-left, or-right}
+use Rattle.bits.proofs.Bounds.{any-ext}
+use Rattle.bits.proofs.BitLaws.{bit-and, bit-with, subset-bit, bit-subset, with-lt}
+use Rattle.bits.proofs.Masks.{mask-ext, mask-with, mask-lt, bit-mask-below, empty-none, mask-of-bits}
 use Rattle.policy.specs.declared.Tables.{Tables}
-use Rattle.policy.specs.Tables.{
-  folderAt,
-  personDeclared,
-  folderDeclared,
-  isPublic,
-  inForce,
-  wallRule,
-  rolesRule,
-  pipelineRule,
-}
+use Rattle.policy.specs.Tables.{roleAt, personDeclared, folderDeclared, inForce, wallRule, rolesRule, pipelineRule}
 use Rattle.policy.specs.Rulebook.{given}
 use Rattle.policy.specs.Request.{Request, subject}
-use Rattle.policy.specs.Rules.{declared, right, used, counted, done}
-use Rattle.policy.specs.OneMore.{withRequest, accessOf, folderOf, stepOn, stepOf}
-use Rattle.policy.proofs.Requests.{person-below}
-use Rattle.policy.proofs.GivenEntries.{folder-firm}
+use Rattle.policy.specs.Rules.{declared, right, used, counted, done, roles}
+use Rattle.policy.specs.OneMore.{withRequest}
 use Rattle.policy.proofs.OneMore.{one-more}
-use Rattle.rules.proofs.SetLaws.{right-below}
-use Rattle.keeping.specs.Keeping.{keptRight, keptFirm, keptStep, SetsAt, Keeps}
+use Rattle.rules.specs.Sets.{covers}
+use Rattle.rules.specs.Kept.{SetsFor, holdsAll, holdsRight, HasHolding, HasHolders}
+use Rattle.rules.proofs.SetLaws.{roles-any, right-below}
 
 -- ---- the sets at their places
 
-module _ {on : Bool} {known : ℕ → Bool} {base width : ℕ} {P : ℕ → ℕ → Bool} where
-  -- a store at a place that holds none of them leaves them
-  sets-left : (kept : List ℕ) (i v : ℕ) → ((j : ℕ) → known j ≡ true → i ≢ base + j) → SetsAt on known base width P kept
-      → SetsAt on known base width P (set kept i v)
-  sets-left kept i v apart sets =
-      record { at = λ force j d. getD-set-other kept i (base + j) v 0 (λ e. apart j d (sym e)) ∙ sets .at force j d }
-
+module _ {n : ℕ} {on : Bool} {known : ℕ → Bool} {width : ℕ} {P : ℕ → ℕ → Bool} where
   -- sets that have the same members
-  sets-same : {P′ : ℕ → ℕ → Bool} (kept : List ℕ) → ((j y : ℕ) → P′ j y ≡ P j y) → SetsAt on known base width P kept
-      → SetsAt on known base width P′ kept
-  sets-same kept e sets = record { at = λ force j d. sets .at force j d ∙ mask-ext width _ _ (λ y l. sym (e j y)) }
+  pub sets-same : {P′ : ℕ → ℕ → Bool} (sets : List ℕ) → (on ≡ true → (j y : ℕ) → P′ j y ≡ P j y) → SetsFor n on known width P sets
+      → SetsFor n on known width P′ sets
+  sets-same sets e has =
+      record { size = has .size; at = λ force j d. has .at force j d ∙ mask-ext width _ _ (λ y l. sym (e force j y)) }
 
-  -- a store that is made where the rule is in force
-  sets-stored : (made : Bool) (new kept : List ℕ) → made ≡ on → SetsAt on known base width P new
-      → SetsAt on known base width P (cond made new kept)
-  sets-stored made new kept e sets = record { at = λ force. rw (e ∙ force) (sets .at force) }
-
-  -- a store that adds a member to one of them
-  sets-more : {P′ : ℕ → ℕ → Bool} (kept : List ℕ) (i x : ℕ) (adds : Bool) → base + i < length kept → x < width
-      → ((j y : ℕ) → P′ j y ≡ (eqb i j && adds) && eqb x y || P j y) → SetsAt on known base width P kept
-      → SetsAt on known base width P′ (set kept (base + i) (cond adds (withBit (getD kept (base + i) 0) x) (getD kept (base + i) 0)))
-  sets-more {P′} kept i x adds room small more sets = record {
-    at = λ force j d. ⊎-elim (here force j d) (other force j d) (decide (eqb
-        i j));
-  }
+  -- one of them stored, if the rule is in force
+  pub sets-stored : {P′ : ℕ → ℕ → Bool} (made : Bool) (sets : List ℕ) (i v : ℕ) → made ≡ on → i < n
+      → (on ≡ true → known i ≡ true → v ≡ maskBelow width (P′ i)) → (on ≡ true → (j y : ℕ) → eqb i j ≡ false → P′ j y ≡ P j y)
+      → SetsFor n on known width P sets → SetsFor n on known width P′ (cond made (set sets i v) sets)
+  sets-stored {P′} made sets i v same within here others has =
+      record { size = sized made; at = λ force j d. rw (same ∙ force) (⊎-elim (own force j d) (other force j d) (decide (eqb i j))) }
     where
-      v : ℕ
-      v = cond adds (withBit (getD kept (base + i) 0) x) (getD kept (base + i) 0)
+      sized : (b : Bool) → length (cond b (set sets i v) sets) ≡ n
+      sized true = length-set sets i v ∙ has .size
+      sized false = has .size
 
-      here : on ≡ true → (j : ℕ) → known j ≡ true → eqb i j ≡ true → getD (set kept (base + i) v) (base + j) 0 ≡ maskBelow width (P′ j)
-      here force j d e =
+      own : on ≡ true → (j : ℕ) → known j ≡ true → eqb i j ≡ true → getD (set sets i v) j 0 ≡ maskBelow width (P′ j)
+      own force j d e =
           let k : i ≡ j = eqb-true i j e in
-          let own : getD kept (base + i) 0 ≡ maskBelow width (P j) = ap (λ (n : ℕ). getD kept (base + n) 0) k ∙ sets .at force j d in
-          ap (λ (n : ℕ). getD (set kept (base + i) v) (base + n) 0) (sym k) ∙ getD-set-same kept (base + i) v 0 room
-          ∙ rw own
-          (mask-with width (P j) x adds small
-          ∙ mask-ext width _ (P′ j) (λ y l. sym (more j y ∙ ap (λ (b : Bool). (b && adds) && eqb x y || P j y) e)))
+          let l : i < length sets = omega (arith, within, has .size) in
+          ap (getD (set sets i v) j) refl
+          ∙ ap (λ (x : ℕ). getD (set sets i v) x 0) (sym k) ∙ getD-set-same sets i v 0 l
+          ∙ here force (ap known k ∙ d) ∙ ap (λ (x : ℕ). maskBelow width (P′ x)) k
 
-      other : on ≡ true → (j : ℕ) → known j ≡ true → eqb i j ≡ false → getD (set kept (base + i) v) (base + j) 0 ≡ maskBelow width (P′ j)
+      other : on ≡ true → (j : ℕ) → known j ≡ true → eqb i j ≡ false → getD (set sets i v) j 0 ≡ maskBelow width (P′ j)
       other force j d e =
           let differs = eqb-false i j e in
-          getD-set-other kept (base + i) (base + j) v 0 (λ k. differs (let z : i ≡ j = omega (arith, k) in z))
-          ∙ sets .at force j d ∙ mask-ext width (P j) (P′ j) (λ y l. sym (more j y ∙ ap (λ (b : Bool). (b && adds) && eqb x y || P j y) e))
+          getD-set-other sets i j v 0 (λ k. differs (sym k)) ∙ has .at force j d
+          ∙ mask-ext width (P j) (P′ j) (λ y l. sym (others force j y e))
 
--- what holds after a store and without it
-if-made : (Q : List ℕ → Type 0) (made : Bool) (new kept : List ℕ) → Q new → Q kept → Q (cond made new kept)
-if-made Q true new kept n o = n
-if-made Q false new kept n o = o
+-- ---- roles
 
-and-true : (b : Bool) → b && true ≡ b
-and-true true = refl
-and-true false = refl
+-- a role holds a set and one right more where it holds the set and the right
+covers-more : (own u x : ℕ) → u < 2 ^ 64 → x < 64 → covers own (withBit u x) ≡ covers own u && bit own x
+unfolding covers
+covers-more own u x small l =
+    bool-ext _ _
+    (λ e.
+    let sub = eqb-true _ _ e in
+    and-both _ _
+    (eq-eqb _ _ (bit-subset 64 u own small (λ k m b.
+    subset-bit (withBit u x) own k sub (bit-with u x k ∙ or-right (eqb k x) _ b))))
+    (subset-bit (withBit u x) own x sub (bit-with u x x ∙ or-left (eqb x x) _ (eq-eqb x x refl))))
+    (λ e.
+    let sub = eqb-true _ _ (and-left (eqb (bitAnd u own) u) (bit own x) e) in
+    eq-eqb _ _ (bit-subset 64 (withBit u x) own (with-lt 64 u x small l) (λ k m b.
+    ⊎-elim
+    (λ i. rw (eqb-true k x i) (and-right (eqb (bitAnd u own) u) (bit own x) e))
+    (λ w. subset-bit u own k sub w)
+    (or-cases (eqb k x) _ (sym (bit-with u x k) ∙ b)))))
 
--- ---- each of the three stores
+module _ (t : Tables) (H : Request → Bool) (ok : given t ≡ true) (r : Request) (d : declared t r ≡ true) where
+  small : right t r < 64
+  small = right-below t H (subject r) ok r d
 
--- each leaves as many places
-pub right-size : (mask : ℕ) (kept : List ℕ) (s x role : ℕ) → length kept ≡ 320 → length (keptRight mask kept s x role) ≡ 320
-unfolding keptRight
-right-size mask kept s x role size =
-    let stored = set kept (64 + s) (withBit (getD kept (64 + s) 0) (x % 64)) in
-    if-made (λ (k : List ℕ). length k ≡ 320) (bit mask rolesRule) (set stored s role) kept
-    (length-set stored s role ∙ length-set kept (64 + s) _ ∙ size) size
+  own-right : right t r % 64 ≡ right t r
+  own-right = mod-eq-of-lt small
 
-pub firm-size : (mask : ℕ) (kept : List ℕ) (s : ℕ) (counts : Bool) (firm : ℕ) → length kept ≡ 320
-    → length (keptFirm mask kept s counts firm) ≡ 320
-unfolding keptFirm
-firm-size mask kept s counts firm size =
-    if-made (λ (k : List ℕ). length k ≡ 320) (bit mask wallRule) _ kept (length-set kept (128 + s) _ ∙ size) size
+  -- roles permit where a role that holds all rights used holds the new one
+  pub roles-kept : (holding holders : ℕ) → holding ≡ maskBelow 32 (holdsAll t H (subject r)) → holders ≡ maskBelow 32 (holdsRight t
+      (right t r))
+      → roles t H r ≡ not (eqb (bitAnd holding holders) 0)
+  unfolding holdsAll holdsRight
+  roles-kept holding holders e f =
+      let some = maskBelow 32 (holdsAll t H (subject r)) in
+      let all = maskBelow 32 (holdsRight t (right t r)) in
+      let used-set = maskBelow 64 (used t H (subject r)) in
+      roles-any t H (subject r) ok r d refl
+      ∙ any-ext 32 _ (bit (bitAnd some all)) (λ k l.
+      ap (λ (x : ℕ). covers (roleAt t k .rights) (withBit used-set x)) own-right
+      ∙ covers-more (roleAt t k .rights) used-set (right t r) (mask-lt 64 (used t H (subject r))) small
+      ∙ sym (bit-and some all k
+      ∙ ap₂ _&&_ (bit-mask-below 32 (holdsAll t H (subject r)) k l) (bit-mask-below 32 (holdsRight t (right t r)) k l)))
+      ∙ sym (not-empty (bitAnd some all) (omega (arith, and-le-l some all, mask-lt 32 (holdsAll t H (subject r)))))
+      ∙ ap₂ (λ (x y : ℕ). not (eqb (bitAnd x y) 0)) (sym e) (sym f)
+    where
+      not-empty : (m : ℕ) → m < 2 ^ 32 → not (eqb m 0) ≡ anyBelow 32 (bit m)
+      not-empty m l = ap not (empty-none 32 m l) ∙ twice (anyBelow 32 (bit m))
+        where
+          twice : (b : Bool) → not (not b) ≡ b
+          twice true = refl
+          twice false = refl
 
-pub step-size : (mask : ℕ) (kept : List ℕ) (o p : ℕ) → length kept ≡ 320 → length (keptStep mask kept o p) ≡ 320
-unfolding keptStep
-step-size mask kept o p size =
-    if-made (λ (k : List ℕ). length k ≡ 320) (bit mask pipelineRule) _ kept (length-set kept (192 + o) _ ∙ size) size
+  -- the rights that a person used, with the new one
+  used-more : (j : ℕ)
+      → maskBelow 64 (used t (withRequest H r) j)
+      ≡ cond (eqb (subject r) j) (withBit (maskBelow 64 (used t H j)) (right t r)) (maskBelow 64 (used t H j))
+  used-more j =
+      mask-ext 64 _ _ (λ y l. one-more .rights t H r j y d)
+      ∙ sym (mask-with 64 (used t H j) (right t r) (eqb (subject r) j) small)
 
-module _ (t : Tables) (H : Request → Bool) (ok : given t ≡ true) {mask : ℕ} (rules : mask ≡ t .mask) (r : Request)
-    (d : declared t r ≡ true) where
-  in-force : (k : ℕ) → bit mask k ≡ inForce t k
-  unfolding inForce
-  in-force k = ap (λ (m : ℕ). bit m k) rules
+  holds-more : (j k : ℕ)
+      → holdsAll t (withRequest H r) j k
+      ≡ cond (eqb (subject r) j) (holdsAll t H j k && holdsRight t (right t r) k) (holdsAll t H j k)
+  unfolding holdsAll holdsRight
+  holds-more j k = ap (covers (roleAt t k .rights)) (used-more j) ∙ go (eqb (subject r) j)
+    where
+      go : (b : Bool)
+          → covers (roleAt t k .rights) (cond b (withBit (maskBelow 64 (used t H j)) (right t r)) (maskBelow 64 (used t H j)))
+          ≡ cond b (covers (roleAt t k .rights) (maskBelow 64 (used t H j)) && bit (roleAt t k .rights) (right t r))
+          (covers (roleAt t k .rights) (maskBelow 64 (used t H j)))
+      go true = covers-more (roleAt t k .rights) (maskBelow 64 (used t H j)) (right t r) (mask-lt 64 (used t H j)) small
+      go false = refl
 
-  -- the rights: one more for the person who made the request; what stands from place 128 on is left
-  module _ (kept : List ℕ) (size : length kept ≡ 320) (x role : ℕ) (new : x ≡ right t r) (below : subject r < 64) where
-    right-kept : SetsAt (inForce t rolesRule) (personDeclared t) 64 64 (used t H) kept
-        → SetsAt (inForce t rolesRule) (personDeclared t) 64 64 (used t (withRequest H r)) (keptRight mask kept (subject r) x role)
-    unfolding keptRight
-    right-kept sets =
-        let small = right-below t H (subject r) ok r d in
-        let own : x % 64 ≡ right t r = omega arith in
-        rw own
-        (sets-stored (bit mask rolesRule) _ kept (in-force rolesRule)
-        (sets-left _ (subject r) role (λ j k e. let z : ⊥ = omega (arith, e) in z)
-        (sets-more kept (subject r) (right t r) true (omega (arith, size)) small
-        (λ j y.
-        one-more .rights t H r j y d
-        ∙ ap (λ (b : Bool). b && eqb (right t r) y || used t H j y) (sym (and-true (eqb (subject r) j)))) sets)))
+  mask-and : (n : ℕ) (p q : ℕ → Bool) → bitAnd (maskBelow n p) (maskBelow n q) ≡ maskBelow n (λ k. p k && q k)
+  mask-and n p q =
+      mask-of-bits n _ _ (lt-of-le-of-lt (and-le-l (maskBelow n p) (maskBelow n q)) (mask-lt n p)) (λ k l.
+      bit-and (maskBelow n p) (maskBelow n q) k ∙ ap₂ _&&_ (bit-mask-below n p k l) (bit-mask-below n q k l))
 
-    right-leaves : {on : Bool} {known : ℕ → Bool} {base width : ℕ} {P : ℕ → ℕ → Bool} → 127 < base → SetsAt on known base width P kept
-        → SetsAt on known base width P (keptRight mask kept (subject r) x role)
-    unfolding keptRight
-    right-leaves {on} {known} {base} {width} {P} far sets =
-        if-made (λ (k : List ℕ). SetsAt on known base width P k) (bit mask rolesRule) _ kept
-        (sets-left _ (subject r) role (λ j k e. let z : ⊥ = omega (arith, e) in z)
-        (sets-left kept (64 + subject r) _ (λ j k e. let z : ⊥ = omega (arith, e) in z) sets))
-        sets
-
-  -- the firms that the wall counts: one more for the person of an access to a folder that is not public; other places are left
-  module _ (kept : List ℕ) (size : length kept ≡ 320) (counts : Bool) (firm : ℕ) (below : subject r < 64) where
-    firm-kept : folderDeclared t (folderOf r) ≡ true → ((j : ℕ) → accessOf r j ≡ eqb (subject r) j) → counts ≡ not (isPublic t (folderOf r))
-        → firm ≡ folderAt t (folderOf r) .firm → SetsAt (inForce t wallRule) (personDeclared t) 128 64 (counted t H) kept
-        → SetsAt (inForce t wallRule) (personDeclared t) 128 64 (counted t (withRequest H r)) (keptFirm mask kept (subject r) counts firm)
-    unfolding keptFirm
-    firm-kept folder access public entry sets =
-        let small = folder-firm t ok (folderOf r) folder in
-        let own : firm % 64 ≡ firm = omega (arith, entry) in
-        rw own
-        (sets-stored (bit mask wallRule) _ kept (in-force wallRule)
-        (sets-more kept (subject r) firm counts (omega (arith, size)) (omega (arith, entry))
-        (λ j f. one-more .counts t H r j f d ∙ rw (access j, public, entry)) sets))
-
-    firm-leaves : {on : Bool} {known : ℕ → Bool} {base width : ℕ} {P : ℕ → ℕ → Bool}
-        → ((j : ℕ) → known j ≡ true → 128 + subject r ≢ base + j) → SetsAt on known base width P kept
-        → SetsAt on known base width P (keptFirm mask kept (subject r) counts firm)
-    unfolding keptFirm
-    firm-leaves {on} {known} {base} {width} {P} apart sets =
-        if-made (λ (k : List ℕ). SetsAt on known base width P k) (bit mask wallRule) _ kept (sets-left kept (128 + subject r) _ apart
-        sets) sets
-
-  -- the steps done: one more on the folder of a step; other places are left
-  module _ (kept : List ℕ) (size : length kept ≡ 320) (o p : ℕ) (small : p < 16) (within : o < 128) where
-    step-kept : ((j : ℕ) → stepOn r j ≡ eqb o j) → stepOf r ≡ p → SetsAt (inForce t pipelineRule) (folderDeclared t) 192 16 (done t H) kept
-        → SetsAt (inForce t pipelineRule) (folderDeclared t) 192 16 (done t (withRequest H r)) (keptStep mask kept o p)
-    unfolding keptStep
-    step-kept steps number sets =
-        let own : p % 64 ≡ p = omega arith in
-        rw own
-        (sets-stored (bit mask pipelineRule) _ kept (in-force pipelineRule)
-        (sets-more kept o p true (omega (arith, size)) small
-        (λ j y. one-more .steps t H r j y d ∙ rw (steps j, number, and-true (eqb o j))) sets))
-
-    step-leaves : {on : Bool} {known : ℕ → Bool} {base width : ℕ} {P : ℕ → ℕ → Bool} → ((j : ℕ) → known j ≡ true → 192 + o ≢ base + j)
-        → SetsAt on known base width P kept → SetsAt on known base width P (keptStep mask kept o p)
-    unfolding keptStep
-    step-leaves {on} {known} {base} {width} {P} apart sets =
-        if-made (λ (k : List ℕ). SetsAt on known base width P k) (bit mask pipelineRule) _ kept (sets-left kept (192 + o) _ apart sets) sets
-
-  -- a request that is no access leaves the firms, and one that is no step the steps
-  firms-same : {kept : List ℕ} → ((j : ℕ) → accessOf r j ≡ false)
-      → SetsAt (inForce t wallRule) (personDeclared t) 128 64 (counted t H) kept
-      → SetsAt (inForce t wallRule) (personDeclared t) 128 64 (counted t (withRequest H r)) kept
-  firms-same none sets = sets-same _ (λ j f. one-more .counts t H r j f d ∙ rw (none j)) sets
-
-  steps-same : {kept : List ℕ} → ((j : ℕ) → stepOn r j ≡ false)
-      → SetsAt (inForce t pipelineRule) (folderDeclared t) 192 16 (done t H) kept
-      → SetsAt (inForce t pipelineRule) (folderDeclared t) 192 16 (done t (withRequest H r)) kept
-  steps-same none sets = sets-same _ (λ o p. one-more .steps t H r o p d ∙ rw (none o)) sets
-
-  -- ---- all that is kept, after each kind of request
-
-  module _ (kept : List ℕ) (keeps : Keeps t H kept) (x role : ℕ) (new : x ≡ right t r) (below : subject r < 64) where
-    right-first : List ℕ
-    right-first = keptRight mask kept (subject r) x role
-
-    -- a start: its right
-    pub kept-start : ((j : ℕ) → accessOf r j ≡ false) → ((j : ℕ) → stepOn r j ≡ false)
-        → Keeps t (withRequest H r) (keptRight mask kept (subject r) x role)
-    kept-start access steps =
-        record {
-          size = right-size mask kept (subject r) x role (keeps .size);
-          rights = right-kept kept (keeps .size) x role new below (keeps .rights);
-          firms = firms-same access (right-leaves kept (keeps .size) x role new below (omega arith) (keeps .firms));
-          steps = steps-same steps (right-leaves kept (keeps .size) x role new below (omega arith) (keeps .steps));
-        }
-
-    module _ (counts : Bool) (firm : ℕ) (folder : folderDeclared t (folderOf r) ≡ true)
-        (access : (j : ℕ) → accessOf r j ≡ eqb (subject r) j) (public : counts ≡ not (isPublic t (folderOf r)))
-        (entry : firm ≡ folderAt t (folderOf r) .firm) where
-      first-size : length (keptRight mask kept (subject r) x role) ≡ 320
-      first-size = right-size mask kept (subject r) x role (keeps .size)
-
-      rights-after : SetsAt (inForce t rolesRule) (personDeclared t) 64 64 (used t (withRequest H r))
-          (keptFirm mask (keptRight mask kept (subject r) x role) (subject r) counts firm)
-      rights-after =
-          firm-leaves _ first-size counts firm below
-          (λ j k e. let l = person-below t j k in let z : ⊥ = omega (arith, e) in z)
-          (right-kept kept (keeps .size) x role new below (keeps .rights))
-
-      firms-after : SetsAt (inForce t wallRule) (personDeclared t) 128 64 (counted t (withRequest H r))
-          (keptFirm mask (keptRight mask kept (subject r) x role) (subject r) counts firm)
-      firms-after =
-          firm-kept _ first-size counts firm below folder access public entry
-          (right-leaves kept (keeps .size) x role new below (omega arith) (keeps .firms))
-
-      steps-before : SetsAt (inForce t pipelineRule) (folderDeclared t) 192 16 (done t H)
-          (keptFirm mask (keptRight mask kept (subject r) x role) (subject r) counts firm)
-      steps-before =
-          firm-leaves _ first-size counts firm below (λ j k e. let z : ⊥ = omega (arith, e) in z)
-          (right-leaves kept (keeps .size) x role new below (omega arith) (keeps .steps))
-
-      -- a read or a write: its right and its firm
-      pub kept-access : ((j : ℕ) → stepOn r j ≡ false)
-          → Keeps t (withRequest H r) (keptFirm mask (keptRight mask kept (subject r) x role) (subject r) counts firm)
-      kept-access steps =
-          record {
-            size = firm-size mask _ (subject r) counts firm first-size;
-            rights = rights-after;
-            firms = firms-after;
-            steps = steps-same steps steps-before;
-          }
-
-      -- a step: its right, its firm and itself
-      pub kept-step : (o p : ℕ) → p < 16 → o < 128 → ((j : ℕ) → stepOn r j ≡ eqb o j) → stepOf r ≡ p
-          → Keeps t (withRequest H r)
-          (keptStep mask (keptFirm mask (keptRight mask kept (subject r) x role) (subject r) counts firm) o p)
-      kept-step o p small within steps number =
-          let size = firm-size mask _ (subject r) counts firm first-size in
-          record {
-            size = step-size mask _ o p size;
-            rights =
-                step-leaves _ size o p small within
-                (λ j k e. let l = person-below t j k in let z : ⊥ = omega (arith, e) in z) rights-after;
-            firms =
-                step-leaves _ size o p small within
-                (λ j k e. let l = person-below t j k in let z : ⊥ = omega (arith, e) in z) firms-after;
-            steps = step-kept _ size o p small within steps number steps-before;
-          }
+  -- the roles that hold all rights, after the request: those that hold the new one too
+  pub holding-more : (made : Bool) (holding : List ℕ) (holders : ℕ) → made ≡ inForce t rolesRule → subject r < 64
+      → personDeclared t (subject r) ≡ true
+      → (inForce t rolesRule ≡ true → holders ≡ maskBelow 32 (holdsRight t (right t r))) → HasHolding t H holding
+      → HasHolding t (withRequest H r) (cond made (set holding (subject r) (bitAnd (getD holding (subject r) 0) holders)) holding)
+  holding-more made holding holders same within known has-right has =
+      sets-stored made holding (subject r) _ same within
+      (λ force d′.
+      ap₂ bitAnd (has .at force (subject r) known) (has-right force)
+      ∙ mask-and 32 (holdsAll t H (subject r)) (holdsRight t (right t r))
+      ∙ mask-ext 32 _ _ (λ k l. sym (holds-more (subject r) k ∙ rw (eq-eqb (subject r) (subject r) refl))))
+      (λ force j k other. holds-more j k ∙ rw other)
+      has

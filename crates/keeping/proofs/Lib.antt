@@ -1,3 +1,9 @@
+pub mod KindLaws
+pub mod FailingLaws
+pub mod UpdateLaws
 pub mod KeptLaws
+pub mod GrantLaws
+pub mod Deciding
+pub mod Known
+pub mod PutLaws
 pub mod Puts
-pub mod GatheringLaws

@@ -1,203 +1,308 @@
--- A put by what is kept. What is kept is what the set gives, so it decides the request as the definitions do; a refused request leaves all
--- that is lent, and a granted one leaves a history, levels and kept sets that agree again.
+-- A put by what is kept, of a request of any kind, placed by the row of its kind: the first check that fails has the number that the
+-- definitions give, and what is lent and kept afterwards is what they give.
 use Prim.Native.Nat.{ℕ, _+_, _%_, _<_}
 use native.Mathlib.Nat.{mod-eq-of-lt}
-use mathlib.Core.Path.{_≡_, refl, sym, ap, ap₂, _∙_, fun-ext, subst}
-use mathlib.Core.Logic.{_≢_}
-use mathlib.Core.Bool.{Bool, true, false, cond, not}
+use native.Mathlib.Omega.{arith}
+use mathlib.Core.Path.{_≡_, refl, sym, ap, ap₂, _∙_, subst, subst₂}
+use mathlib.Core.Logic.{⊎-elim}
+use mathlib.Core.Bool.{Bool, true, false, cond, not, _&&_, _||_}
 use mathlib.Core.List.{List}
-use mathlib.Core.Option.{Option, none, some}
-use lib.ListN.{length, getD}
-use borrow.Author.Tests.{ne-eqb}
-use Rattle.bits.specs.Bits.{withBit}
-use Rattle.bits.proofs.Booleans.{and-both}
-use Rattle.bits.proofs.Masks.{mask-lt}
+use mathlib.Core.Option.{some}
+use lib.Dec.{eqb, ltb}
+use lib.Bits.{bitAnd}
+use lib.ListN.{length, getD, set}
+use lib.Seq.{set-getD}
+use borrow.Author.Tests.{lt-ltb, eqb-true}
+use Rattle.bits.specs.Bits.{bit, withBit, maskBelow}
+use Rattle.bits.proofs.Booleans.{decide, false-elim}
 use Rattle.policy.specs.declared.Folder.{Folder}
 use Rattle.policy.specs.declared.Tables.{Tables}
-use Rattle.policy.specs.Tables.{personDeclared, classOf, inForce, wallRule}
-use Rattle.policy.specs.History.{historyBytes}
-use Rattle.policy.specs.Request.{Request, read, write, start, step, subject, setOf, recorded}
-use Rattle.policy.specs.Levels.{levelAt, metWith, lowered}
-use Rattle.policy.specs.Rules.{declared, right, wallAccess, done}
 use Rattle.policy.specs.Checks.{ladder}
-use Rattle.policy.specs.Calls.{state, recordedIf, requestChecks}
-use Rattle.policy.specs.OneMore.{withRequest, accessOf, folderOf, stepOn, stepOf}
-use Rattle.policy.proofs.Requests.{declared-place, person-below, folder-below, step-declared}
-use Rattle.policy.proofs.Places.{set-recorded}
-use Rattle.rules.specs.Sets.{firmsOf, wallIn, rolesIn}
-use Rattle.rules.proofs.SetLaws.{wall-in}
+use Rattle.policy.specs.Tables.{folderAt, personAt, inForce, classOf, wallRule, rolesRule, pipelineRule}
+use Rattle.policy.specs.Rulebook.{given}
+use Rattle.policy.specs.History.{historyBytes, withBitAt}
+use Rattle.policy.specs.Request.{Request, subject, index, hasPlace, setOf, recorded}
+use Rattle.policy.specs.Levels.{levelAt, lowered}
+use Rattle.policy.specs.Rules.{declared, right}
+use Rattle.policy.specs.Calls.{state, requestChecks, recordedIf}
+use Rattle.policy.specs.OneMore.{folderOf, stepOf}
+use Rattle.policy.proofs.Requests.{declared-place, folder-below}
+use Rattle.policy.proofs.GivenEntries.{folder-kind}
 use Rattle.pipeline.specs.Steps.{pipelineIn}
-use Rattle.request.specs.Parsed.{accessBy}
-use Rattle.judging.specs.Judging.{outcomeIf, numberOf, accessRight, numberFor, judged}
-use Rattle.judging.proofs.JudgingLaws.{not-declared}
-use Rattle.judging.proofs.Deciding.{
-  Decides,
-  access-decides,
-  step-decides,
-  start-decides,
-  three-decide,
+use Rattle.rules.specs.Sets.{firmsOf}
+use Rattle.rules.specs.Kept.{holdsRight}
+use Rattle.level.specs.Sets.{levelSet}
+use Rattle.levels.proofs.SetLaws.{level-lt}
+use Rattle.keeping.specs.declared.Asked.{Asked}
+use Rattle.keeping.specs.declared.kinds.Placed.{Placed}
+use Rattle.keeping.specs.Kinds.{
+  placedBy,
+  rightBy,
+  askedBy,
+  placeOf,
+  targetOf,
+  lowers,
+  isAccess,
+  isStep,
+  Exact,
+  PlacedAs,
+  RowOf,
 }
-use Rattle.request.specs.declared.Parsed.{Parsed}
-use Rattle.judging.specs.declared.asking.Asked.{Asked}
-use Rattle.judging.specs.Asking.{Knows}
-use Rattle.judging.proofs.AskingLaws.{both-known, entry-known}
-use Rattle.keeping.specs.Keeping.{loweredTo, keptRight, keptFirm, keptStep, Keeps, Lent, lent, PutKept, Serves, Parties, TurnKept}
-use Rattle.keeping.proofs.KeptLaws.{kept-start, kept-access, kept-step}
+use Rattle.keeping.specs.Failing.{Failing, firstFailing, numberAt, grantAt, failingOf}
+use Rattle.keeping.specs.Keeping.{Kept, kept, Keeps, Serves, PutKept, Changed}
+use Rattle.keeping.proofs.KindLaws.{placed-as, row-of, right-small, right-is, folder-number}
+use Rattle.keeping.proofs.FailingLaws.{granted-at}
+use Rattle.keeping.proofs.KeptLaws.{roles-kept}
+use Rattle.keeping.proofs.Deciding.{decided, not-declared}
+use Rattle.keeping.proofs.Known.{levelIn, markIn, set-at, level-small, parties-known, outcome-known, wall-known, pipeline-known}
+use Rattle.keeping.proofs.PutLaws.{
+  subject-declared,
+  folder-declared,
+  step-access,
+  access-place,
+  granted-keeps,
+  kept-after as own-kept,
+}
 
-module _ (t : Tables) (h l kept : List ℕ) (r : Request) {n : ℕ} (judged-as : n ≡ judged t (setOf h) (levelAt l) r) where
-  -- a refused request
-  pub put-refused : Keeps t (setOf h) kept → n ≢ 0 → PutKept t (lent h l kept) r n (lent h l kept)
+-- what is kept, part by part
+parts : {firms firms′ holding holding′ done done′ next next′ sets sets′ : List ℕ} → firms ≡ firms′ → holding ≡ holding′ → done ≡ done′
+    → next ≡ next′ → sets ≡ sets′ → kept firms holding done next sets ≡ kept firms′ holding′ done′ next′ sets′
+parts a b c d e = rw (a, b, c, d, e)
+
+module _ (t : Tables) (h l : List ℕ) (size : length h ≡ historyBytes) (mask kind s o p : ℕ) (low : 15 < kind) (high : kind < 20)
+    (small : p < 256) (k : Kept) (holders steps : List ℕ) (e : Folder) (class : ℕ) (serves : Serves t mask holders steps e class o)
+    (keeps : Keeps t (setOf h) l k) where
+  -- the request, and its numbers
+  abbrev pub q : Request
+  q = askedBy kind s o p
+
+  abbrev pub x : Placed
+  x = placedBy kind s o p
+
+  placed : PlacedAs q x
+  placed = placed-as kind s o p low high small
+
+  module _ (d : declared t q ≡ true) where
+    is : Exact q x
+    is = placed .exact (declared-place t q d)
+
+    -- the folder's own number, and its entry
+    folder : isAccess q ≡ true → o ≡ folderOf q
+    folder a = folder-number kind s o p a
+
+    entry : isAccess q ≡ true → (e ≡ folderAt t (folderOf q)) × (class ≡ firmsOf t (classOf t (folderOf q)))
+    entry a =
+        let own = folder a in
+        let below = folder-below t (folderOf q) (folder-declared t q d a) in
+        let same : o % 128 ≡ folderOf q = ap (λ (n : ℕ). n % 128) own ∙ mod-eq-of-lt below in
+        (serves .entry ∙ ap (folderAt t) same, serves .firms ∙ ap (λ (n : ℕ). firmsOf t (classOf t n)) same)
+
+    right-known : rightBy kind (e .kind) (x .step) ≡ right t q
+    right-known =
+        right-is t kind s o p (e .kind) low high (declared-place t q d) (λ a.
+        let named = ap (λ (y : Folder). y .kind) (entry a .0) in
+        let m = folder-kind t (serves .tables) (folderOf q) (folder-declared t q d a) in
+        (named, (let z : e .kind < 16 = omega (arith, m, named) in z)))
+
+    rights : inForce t rolesRule ≡ true → getD holders (rightBy kind (e .kind) (x .step)) 0 ≡ maskBelow 32 (holdsRight t (right t q))
+    rights on =
+        serves .rights .at on _ (lt-ltb _ 64 (right-small kind s o p (e .kind) low high))
+        ∙ ap (λ (n : ℕ). maskBelow 32 (holdsRight t n)) right-known
+
+  -- what the request is judged by
+  abbrev pub failing : Failing
+  failing =
+      failingOf q mask (levelIn t l (x .set)) (levelAt l (x .person)) (markIn t (x .set)) (not (personAt t (x .person) .declared))
+      (not (e .public) && isAccess q) (getD (k .firms) (x .person) 0) class (e .firm) (getD (k .holding) (x .person) 0)
+      (getD holders (rightBy kind (e .kind) (x .step)) 0) (getD (k .next) (x .place) 0) (x .step)
+
+  pub number-is : ladder (requestChecks t (setOf h) (levelAt l) (some q)) ≡ getD numberAt (firstFailing failing) 0
+  number-is =
+      decided t (setOf h) (levelAt l) q mask (serves .rules) (levelIn t l (x .set)) (levelAt l (x .person)) (markIn t (x .set))
+      (not (personAt t (x .person) .declared)) (not (e .public) && isAccess q) (getD (k .firms) (x .person) 0) class (e .firm)
+      (getD (k .holding) (x .person) 0) (getD holders (rightBy kind (e .kind) (x .step)) 0) (getD (k .next) (x .place) 0) (x .step)
+      (parties-known t q (x .set) (x .person) (λ place. (placed .exact place .set, placed .exact place .person)))
+      (λ d on.
+      wall-known t (setOf h) l (serves .tables) e (getD (k .firms) (x .person) 0) class q d (entry d)
+      (ap (λ (n : ℕ). getD (k .firms) n 0) (is d .person) ∙ keeps .firms .at on (subject q) (subject-declared t q d)))
+      (λ d.
+      rw (is d .set, is d .person)
+      (outcome-known t (setOf h) l q (declared-place t q d)))
+      (λ d on.
+      roles-kept t (setOf h) (serves .tables) q d (getD (k .holding) (x .person) 0) _
+      (ap (λ (n : ℕ). getD (k .holding) n 0) (is d .person) ∙ keeps .holding .at on (subject q) (subject-declared t q d))
+      (rights d on))
+      (λ d on.
+      rw (is d .step)
+      (pipeline-known t (setOf h) l q (getD (k .next) (x .place) 0) (declared-place t q d) (λ taken.
+      let a = step-access q taken in
+      ap (λ (n : ℕ). getD (k .next) n 0) (is d .place ∙ access-place q a)
+      ∙ keeps .next .at on (folderOf q) (folder-declared t q d a))))
+
+  -- ---- what is lent and kept afterwards
+
+  -- after a put that is granted or not
+  abbrev pub history-after : Bool → List ℕ
+  history-after g = cond g (withBitAt h (x .index)) h
+
+  abbrev pub kept-after : Bool → Kept
+  kept-after g =
+      kept
+      (cond (bit mask wallRule)
+      (set (k .firms) (x .person)
+      (cond (g && (not (e .public) && isAccess q)) (withBit (getD (k .firms) (x .person) 0) (e .firm % 64))
+      (getD (k .firms) (x .person) 0)))
+      (k .firms))
+      (cond (bit mask rolesRule)
+      (set (k .holding) (x .person)
+      (cond g (bitAnd (getD (k .holding) (x .person) 0) (getD holders (rightBy kind (e .kind) (x .step)) 0))
+      (getD (k .holding) (x .person) 0)))
+      (k .holding))
+      (cond (g && isStep q)
+      (cond (bit mask pipelineRule) (set (k .done) (x .place) (withBit (getD (k .done) (x .place) 0) (x .step % 64))) (k .done))
+      (k .done))
+      (cond (g && isStep q)
+      (cond (bit mask pipelineRule)
+      (set (k .next) (x .place) (maskBelow 16 (pipelineIn steps (withBit (getD (k .done) (x .place) 0) (x .step % 64) % 65536))))
+      (k .next))
+      (k .next))
+      (set (k .sets) (x .person)
+      (cond (g && lowers q) (bitAnd (getD (k .sets) (x .person) 0) (getD (k .sets) (x .set) 0)) (getD (k .sets) (x .person) 0)))
+
+  -- nothing changes where the request is refused
+  unchanged : (on : Bool) (list : List ℕ) (i : ℕ) → cond on (set list i (getD list i 0)) list ≡ list
+  unchanged true list i = set-getD list i 0
+  unchanged false list i = refl
+
+  refused-same : kept-after false ≡ k
+  refused-same =
+      parts (unchanged (bit mask wallRule) (k .firms) (x .person)) (unchanged (bit mask rolesRule) (k .holding) (x .person)) refl refl
+      (set-getD (k .sets) (x .person) 0)
+
+  pub put-refused : {n : ℕ} → n ≡ ladder (requestChecks t (setOf h) (levelAt l) (some q)) → eqb n 0 ≡ false
+      → PutKept t (state h l) q n (history-after false) (kept-after false)
   unfolding recordedIf
-  put-refused keeps other = record { put = record { judgedAs = judged-as; left = rw (ne-eqb n 0 other) }; keeps = keeps }
+  put-refused judged other =
+      record { judgedAs = judged; left = rw other; keeps = rw other (subst (Keeps t (setOf h) l) (sym refused-same) keeps) }
 
-  -- a granted one
-  put-granted : {h′ l′ kept′ : List ℕ} → n ≡ 0 → declared t r ≡ true → length h ≡ historyBytes → h′ ≡ recorded h r → l′ ≡ lowered t l r
-      → Keeps t (withRequest (setOf h) r) kept′ → PutKept t (lent h l kept) r n (lent h′ l′ kept′)
-  unfolding recordedIf withRequest
-  put-granted {h′} {l′} {kept′} zero d size history levels keeps =
+  module _ (d : declared t q ≡ true) where
+    -- what PutLaws has of the request's own numbers is what the code has of those that were placed
+    abbrev own-after : Kept
+    own-after =
+        own-kept t h l (serves .tables) size (serves .rules) k keeps q d e (getD holders (rightBy kind (e .kind) (x .step)) 0) steps
+        (λ a. entry d a .0) (rights d) (serves .enabling)
+
+    steps-same : {A : Type 0} (f : ℕ → ℕ → A) (y : A) → cond (isStep q) (f (x .place) (x .step)) y ≡ cond (isStep q) (f (folderOf q)
+        (stepOf q)) y
+    steps-same f y =
+        ⊎-elim
+        (λ taken. rw (is d .place ∙ access-place q (step-access q taken), is d .step))
+        (λ none. rw none)
+        (decide (isStep q))
+
+    kept-same : kept-after true ≡ own-after
+    kept-same =
+        parts (rw (is d .person)) (rw (is d .person))
+        (steps-same (λ i j.
+        cond (bit mask pipelineRule) (set (k .done) i (withBit (getD (k .done) i 0) (j % 64))) (k .done)) (k .done))
+        (steps-same (λ i j.
+        cond (bit mask pipelineRule)
+        (set (k .next) i (maskBelow 16 (pipelineIn steps (withBit (getD (k .done) i 0) (j % 64) % 65536)))) (k .next)) (k .next))
+        (rw (is d .person, is d .set))
+
+    granted : {n : ℕ} → n ≡ ladder (requestChecks t (setOf h) (levelAt l) (some q)) → eqb n 0 ≡ true
+        → PutKept t (state h l) q n (history-after true) (kept-after true)
+    unfolding recordedIf recorded
+    granted judged zero =
+        let history : withBitAt h (x .index) ≡ recorded h q = ap (withBitAt h) (is d .index) in
+        record {
+          judgedAs = judged;
+          left = rw zero history;
+          keeps =
+              rw (zero, history)
+              (subst (Keeps t (setOf (recorded h q)) (lowered t l q)) (sym kept-same)
+              (granted-keeps t h l (serves .tables) size (serves .rules) k keeps q d e (getD holders (rightBy kind (e .kind) (x .step)) 0)
+              steps (λ a. entry d a .0) (rights d) (serves .enabling)));
+        }
+
+  pub put-granted : {n : ℕ} → n ≡ ladder (requestChecks t (setOf h) (levelAt l) (some q)) → eqb n 0 ≡ true
+      → PutKept t (state h l) q n (history-after true) (kept-after true)
+  put-granted {n} judged zero =
+      ⊎-elim (λ d. granted d judged zero)
+      (λ d.
+      let refused : n ≡ 13 = judged ∙ not-declared t (setOf h) (levelAt l) q mask (serves .rules) d in
+      let z : n ≡ 0 = eqb-true n 0 zero in
+      let w : ⊥ = omega (arith, refused, z) in absurd w)
+      (decide (declared t q))
+
+  -- granted or not
+  pub put-is : (g : Bool) {n : ℕ} → n ≡ ladder (requestChecks t (setOf h) (levelAt l) (some q)) → eqb n 0 ≡ g
+      → PutKept t (state h l) q n (history-after g) (kept-after g)
+  put-is true judged flag = put-granted judged flag
+  put-is false judged flag = put-refused judged flag
+
+  -- ---- what the code finds and does
+
+  -- the sets that the request is judged by
+  abbrev pub asked-at : Placed → ℕ → Asked
+  asked-at at x′ =
       record {
-        put = record { judgedAs = judged-as; left = rw zero (ap₂ state history levels) };
-        keeps =
-            rw history
-            (subst (λ (H : Request → Bool). Keeps t H kept′)
-            (sym (fun-ext (λ q. set-recorded h size r q (declared-place t r d)))) keeps);
+        needed = getD (k .sets) (at .set) 0;
+        own = getD (k .sets) (at .person) 0;
+        class = class;
+        counted = getD (k .firms) (at .person) 0;
+        holding = getD (k .holding) (at .person) 0;
+        holders = getD holders x′ 0;
+        next = getD (k .next) (at .place) 0;
       }
 
--- ---- each kind of request
+  -- the first check that fails, found as `judge` finds it
+  abbrev pub Judges : Placed → ℕ → ℕ → ℕ → ℕ → Type 0
+  Judges at firm x′ counts first =
+      (r : Request) (a b : ℕ) (m n c : Bool) → RowOf r kind → at .outside ≡ cond (hasPlace r) 0 1 → counts ≡ cond c 1 0 → a < 65536
+      → b < 65536 → getD (k .sets) (at .set) 0 ≡ levelSet a m → getD (k .sets) (at .person) 0 ≡ levelSet b n
+      → first
+      ≡ firstFailing
+      (failingOf r mask a b m n c (getD (k .firms) (at .person) 0) class firm (getD (k .holding) (at .person) 0) (getD holders x′ 0)
+      (getD (k .next) (at .place) 0) (at .step))
 
-module _ (t : Tables) (mask : ℕ) (roles h l kept : List ℕ) (serves : Serves t mask roles (lent h l kept)) (s : ℕ)
-    (person : personDeclared t s ≡ true) where
-  keeps : Keeps t (setOf h) kept
-  keeps = serves .keeps
+  -- the changes, made as `change` makes them
+  abbrev pub Changes : Placed → ℕ → ℕ → ℕ → ℕ → List ℕ → Kept → Type 0
+  Changes at firm x′ counts all h′ k′ =
+      (r : Request) (g c : Bool) → RowOf r kind → all ≡ cond g 18446744073709551615 0 → counts ≡ cond c 1 0
+      → Changed r g c mask steps at firm (asked-at at x′) h k h′ k′
 
-  module _ (o : ℕ) (e : Folder) (class : ℕ) (parties : Parties t s o e class) where
-    walls : inForce t wallRule ≡ true → wallIn e (getD kept (128 + s) 0) class ≡ wallAccess t (setOf h) s o
-    walls on =
-        ap (λ (x : Folder). wallIn x (getD kept (128 + s) 0) class) (parties .entry)
-        ∙ wall-in t (setOf h) s (serves .tables) o _ class (parties .folder) (keeps .firms .at on s person) (parties .firms)
+  found : {counts first number all : ℕ} {h′ : List ℕ} {k′ : Kept} → counts ≡ cond (not (e .public) && isAccess q) 1 0
+      → Judges x (e .firm) (rightBy kind (e .kind) (x .step)) counts first
+      → Changes x (e .firm) (rightBy kind (e .kind) (x .step)) counts all h′ k′ → first < 7 → all ≡ getD grantAt first 0
+      → number ≡ getD numberAt first 0 → PutKept t (state h l) q number h′ k′
+  found {counts} {first} {number} {all} {h′} {k′} counted judges changes below every is-number =
+      let row = row-of kind s o p low high in
+      let (grants, zero) = granted-at first below in
+      let first-is : first ≡ firstFailing failing =
+      judges q (levelIn t l (x .set)) (levelAt l (x .person)) (markIn t (x .set)) (not (personAt t (x .person) .declared))
+      (not (e .public) && isAccess q) row (placed .outside) counted (level-small t l (k .sets) (keeps .levels) (x .set) (placed .setBelow))
+      (level-lt l (x .person) (keeps .levels .buffer)) (set-at t l (k .sets) (keeps .levels) (x .set) (placed .setBelow))
+      (keeps .levels .persons (x .person) (placed .personBelow)) in
+      let changed = changes q (eqb first 6) (not (e .public) && isAccess q) row (every ∙ grants) counted in
+      let judged : number ≡ ladder (requestChecks t (setOf h) (levelAt l) (some q)) =
+      is-number ∙ ap (λ (n : ℕ). getD numberAt n 0) first-is ∙ sym number-is in
+      subst₂ (PutKept t (state h l) q number) (sym (changed .history))
+      (sym
+      (parts (changed .added .firms) (changed .added .holding) (changed .added .done) (changed .added .next) (changed .levels)))
+      (put-is (eqb first 6) judged (ap (λ (n : ℕ). eqb n 0) is-number ∙ zero))
 
-    -- a read or a write is decided by what is kept
-    pub access-known : (writes : Bool) (x : ℕ) → x ≡ accessRight writes (e .kind)
-        → Decides t (setOf h) (levelAt l) (accessBy writes s o) mask (wallIn e (getD kept (128 + s) 0) class)
-        (outcomeIf writes (e .level .0) (levelAt l s)) (rolesIn roles (withBit (getD kept (64 + s) 0) (x % 64))) true
-    access-known writes x uses =
-        access-decides t (setOf h) (levelAt l) (serves .tables) (serves .rules) (serves .rights) s person
-        (λ on. keeps .rights .at on s person) refl o (parties .folder) (parties .entry) walls writes uses
-
-    access-after : (writes : Bool) (x role : ℕ) → x ≡ accessRight writes (e .kind)
-        → Keeps t (withRequest (setOf h) (accessBy writes s o)) (keptFirm mask (keptRight mask kept s x role) s (not (e .public)) (e .firm))
-    unfolding accessBy accessRight declared right subject accessOf folderOf stepOn
-    access-after true x role uses =
-        kept-access t (setOf h) (serves .tables) (serves .rules) (write s o) (and-both _ _ person (parties .folder)) kept keeps x role
-        (uses ∙ rw (parties .entry)) (person-below t s person) (not (e .public)) (e .firm) (parties .folder) (λ j. refl)
-        (rw (parties .entry)) (rw (parties .entry)) (λ j. refl)
-    access-after false x role uses =
-        kept-access t (setOf h) (serves .tables) (serves .rules) (read s o) (and-both _ _ person (parties .folder)) kept keeps x role
-        (uses ∙ rw (parties .entry)) (person-below t s person) (not (e .public)) (e .firm) (parties .folder) (λ j. refl)
-        (rw (parties .entry)) (rw (parties .entry)) (λ j. refl)
-
-    access-lowers : (writes : Bool) → cond writes l (loweredTo l s (e .level .0)) ≡ lowered t l (accessBy writes s o)
-    unfolding accessBy lowered metWith loweredTo
-    access-lowers true = refl
-    access-lowers false = rw (parties .entry)
-
-    pub access-put : (writes : Bool) (x role : ℕ) {n : ℕ} {h′ l′ kept′ : List ℕ} → x ≡ accessRight writes (e .kind)
-        → n ≡ numberOf mask (wallIn e (getD kept (128 + s) 0) class) (outcomeIf writes (e .level .0) (levelAt l s))
-        (rolesIn roles (withBit (getD kept (64 + s) 0) (x % 64))) true
-        → n ≡ 0 → length h ≡ historyBytes → h′ ≡ recorded h (accessBy writes s o) → l′ ≡ cond writes l (loweredTo l s (e .level .0))
-        → kept′ ≡ keptFirm mask (keptRight mask kept s x role) s (not (e .public)) (e .firm)
-        → PutKept t (lent h l kept) (accessBy writes s o) 0 (lent h′ l′ kept′)
-    access-put writes x role uses number zero size history levels stored =
-        let decides = access-known writes x uses in
-        put-granted t h l kept (accessBy writes s o) (sym zero ∙ three-decide decides number) refl (decides .parties) size history
-        (levels ∙ access-lowers writes) (rw stored (access-after writes x role uses))
-
-    -- a step
-    module _ (steps : List ℕ) (enabling : steps ≡ t .steps) (p : ℕ) (below : p < 16) where
-      pub step-known : (done-set : ℕ) → done-set ≡ getD kept (192 + o) 0 % 65536
-          → Decides t (setOf h) (levelAt l) (step s p o) mask (wallIn e (getD kept (128 + s) 0) class)
-          (outcomeIf true (e .level .0) (levelAt l s)) (rolesIn roles (withBit (getD kept (64 + s) 0) ((48 + p) % 64)))
-          (pipelineIn steps done-set p)
-      step-known done-set found =
-          step-decides t (setOf h) (levelAt l) (serves .tables) (serves .rules) (serves .rights) s person
-          (λ on. keeps .rights .at on s person) refl o (parties .folder) (parties .entry) walls p below enabling
-          (λ on.
-          let at = keeps .steps .at on o (parties .folder) in
-          let small = mask-lt 16 (done t (setOf h) o) in
-          found ∙ rw at (mod-eq-of-lt small))
-
-      step-after : (role : ℕ)
-          → Keeps t (withRequest (setOf h) (step s p o))
-          (keptStep mask (keptFirm mask (keptRight mask kept s (48 + p) role) s (not (e .public)) (e .firm)) o p)
-      unfolding right subject accessOf folderOf stepOn stepOf
-      step-after role =
-          kept-step t (setOf h) (serves .tables) (serves .rules) (step s p o) (step-declared t s p o person below (parties .folder))
-          kept keeps
-          (48 + p) role refl (person-below t s person) (not (e .public)) (e .firm) (parties .folder) (λ j. refl)
-          (rw (parties .entry)) (rw (parties .entry)) o p below (folder-below t o (parties .folder)) (λ j. refl) refl
-
-      step-lowers : loweredTo l s (e .level .0) ≡ lowered t l (step s p o)
-      unfolding lowered metWith loweredTo
-      step-lowers = rw (parties .entry)
-
-      pub step-put : (role : ℕ) {h′ l′ kept′ : List ℕ} → 0 ≡ judged t (setOf h) (levelAt l) (step s p o) → length h ≡ historyBytes
-          → h′ ≡ recorded h (step s p o) → l′ ≡ loweredTo l s (e .level .0)
-          → kept′ ≡ keptStep mask (keptFirm mask (keptRight mask kept s (48 + p) role) s (not (e .public)) (e .firm)) o p
-          → PutKept t (lent h l kept) (step s p o) 0 (lent h′ l′ kept′)
-      step-put role granted size history levels stored =
-          put-granted t h l kept (step s p o) granted refl (step-declared t s p o person below (parties .folder)) size history
-          (levels ∙ step-lowers) (rw stored (step-after role))
-
-  -- a start
-  module _ (u : ℕ) (second : personDeclared t u ≡ true) where
-    pub start-known : Decides t (setOf h) (levelAt l) (start s u) mask true (outcomeIf true (levelAt l u) (levelAt l s))
-        (rolesIn roles (withBit (getD kept (64 + s) 0) (32 % 64))) true
-    start-known =
-        start-decides t (setOf h) (levelAt l) (serves .tables) (serves .rules) (serves .rights) s person
-        (λ on. keeps .rights .at on s person) refl u second refl
-
-    start-after : (role : ℕ) → Keeps t (withRequest (setOf h) (start s u)) (keptRight mask kept s 32 role)
-    unfolding declared right subject accessOf folderOf stepOn
-    start-after role =
-        kept-start t (setOf h) (serves .tables) (serves .rules) (start s u) (and-both _ _ person second) kept keeps 32 role refl
-        (person-below t s person) (λ j. refl) (λ j. refl)
-
-    start-leaves : l ≡ lowered t l (start s u)
-    unfolding lowered
-    start-leaves = refl
-
-    pub start-put : (role : ℕ) {h′ kept′ : List ℕ} → 0 ≡ judged t (setOf h) (levelAt l) (start s u) → length h ≡ historyBytes
-        → h′ ≡ recorded h (start s u) → kept′ ≡ keptRight mask kept s 32 role → PutKept t (lent h l kept) (start s u) 0 (lent h′ l kept′)
-    start-put role granted size history stored =
-        put-granted t h l kept (start s u) granted refl (start-known .parties) size history start-leaves (rw stored (start-after role))
-
--- ---- any request
-
-module _ {t : Tables} {before after : Lent} (r : Request) {n : ℕ} where
-  -- the put of a request that was parsed
-  pub as-turn : {o : Option Request} → o ≡ some r → PutKept t before r n after → TurnKept t before o n after
-  as-turn e put = rw e (record { judgedAs = put .put .judgedAs; left = put .put .left; keeps = put .keeps })
-
--- a request of undeclared parties, and none
-module _ {t : Tables} {before : Lent} (keeps : Keeps t (setOf (before .state .history)) (before .kept)) where
-  pub undeclared-turn : (r : Request) {o : Option Request} → o ≡ some r → declared t r ≡ false → TurnKept t before o 13 before
-  unfolding recordedIf
-  undeclared-turn r e d =
-      rw e
-      (record {
-        judgedAs = sym (not-declared t (setOf (before .state .history)) (levelAt (before .state .levels)) r d);
-        left = refl;
-        keeps = keeps;
-      })
-
-  pub cut-turn : {o : Option Request} → o ≡ none → TurnKept t before o 12 before
-  unfolding recordedIf numberFor requestChecks ladder
-  cut-turn e = rw e (record { judgedAs = refl; left = refl; keeps = keeps })
-
--- ---- what the tables say of the parties
-
-pub parties-known : {t : Tables} {asked : Asked} {r : Parsed} {s o class : ℕ} → Knows t asked r → s ≡ r .person → o ≡ r .target
-    → (asked .known ≡ true → class ≡ firmsOf t (classOf t (r .target))) → asked .known ≡ true → Parties t s o (asked .folder) class
-parties-known knows person target firms declares =
-    let (one, other) = both-known knows person target declares in
-    record { person = one; folder = other; entry = entry-known knows person target declares; firms = rw target (firms declares) }
+  -- the same of the numbers as the code has them
+  pub found-at : (at : Placed) (firm x′ : ℕ) {counts first number all : ℕ} {h′ : List ℕ} {k′ : Kept} → at ≡ x → firm ≡ e .firm
+      → x′ ≡ rightBy kind (e .kind) (at .step) → counts ≡ cond (not (e .public) && isAccess q) 1 0 → Judges at firm x′ counts first
+      → Changes at firm x′ counts all h′ k′ → first < 7 → all ≡ getD grantAt first 0 → number ≡ getD numberAt first 0
+      → PutKept t (state h l) q number h′ k′
+  found-at at firm x′ {counts} {first} {number} {all} {h′} {k′} is-at is-firm is-right counted judges changes =
+      let right : x′ ≡ rightBy kind (e .kind) (x .step) = is-right ∙ ap (λ (y : Placed). rightBy kind (e .kind) (y .step)) is-at in
+      let judges′ : Judges x (e .firm) (rightBy kind (e .kind) (x .step)) counts first =
+      subst (λ (y : Placed). Judges y (e .firm) (rightBy kind (e .kind) (x .step)) counts first) is-at
+      (subst₂ (λ (f n : ℕ). Judges at f n counts first) is-firm right judges) in
+      let changes′ : Changes x (e .firm) (rightBy kind (e .kind) (x .step)) counts all h′ k′ =
+      subst (λ (y : Placed). Changes y (e .firm) (rightBy kind (e .kind) (x .step)) counts all h′ k′) is-at
+      (subst₂ (λ (f n : ℕ). Changes at f n counts all h′ k′) is-firm right changes) in
+      found counted judges′ changes′

@@ -1,157 +1,134 @@
--- What a run keeps: the sets that the rules in force ask about, each as the set of the requests granted so far gives it; and how a granted
--- request changes them.
-use Prim.Native.Nat.{ℕ, _+_, _%_, _<_}
+-- What a run keeps: the sets that the rules in force ask about, each as the set of the requests granted so far gives it, and every level as
+-- a set; and a put by it, after which it keeps the same of the set with the granted request.
+use Prim.Native.Nat.{ℕ, _%_, _<_}
 use mathlib.Core.Path.{_≡_}
-use mathlib.Core.Bool.{Bool, true, cond, _||_}
+use mathlib.Core.Bool.{Bool, true, cond, _&&_}
 use mathlib.Core.List.{List}
-use mathlib.Core.Option.{Option, some}
+use mathlib.Core.Option.{some}
 use lib.Dec.{eqb}
+use lib.Bits.{bitAnd}
 use lib.ListN.{length, getD, set}
 use Rattle.bits.specs.Bits.{bit, withBit, maskBelow}
-use Rattle.level.specs.Levels.{meetOf}
+use Rattle.level.specs.Sets.{levelSet}
 use Rattle.policy.specs.declared.Folder.{Folder}
 use Rattle.policy.specs.declared.Tables.{Tables}
-use Rattle.policy.specs.Tables.{
-  folderAt,
-  personDeclared,
-  folderDeclared,
-  classOf,
-  inForce,
-  wallRule,
-  rolesRule,
-  pipelineRule,
-}
+use Rattle.policy.specs.Checks.{ladder}
+use Rattle.policy.specs.Tables.{folderAt, classOf, wallRule, rolesRule, pipelineRule}
+use Rattle.policy.specs.History.{withBitAt}
 use Rattle.policy.specs.Rulebook.{given}
-use Rattle.policy.specs.History.{historyBytes}
-use Rattle.policy.specs.Request.{Request, start, step, setOf}
-use Rattle.policy.specs.Levels.{levelsBytes, levelAt, withLevelAt}
-use Rattle.policy.specs.Rules.{used, counted, done}
-use Rattle.policy.specs.Calls.{State, state, recordedIf}
-use Rattle.rules.specs.Sets.{firmsOf, HasRoles}
-use Rattle.pipeline.specs.Steps.{doneBy}
+use Rattle.policy.specs.Request.{Request, setOf}
+use Rattle.policy.specs.Levels.{levelAt}
+use Rattle.policy.specs.Calls.{State, state, requestChecks, recordedIf}
+use Rattle.levels.specs.Sets.{LevelSets}
+use Rattle.rules.specs.Sets.{firmsOf}
 use Rattle.request.specs.declared.Parsed.{Parsed}
-use Rattle.request.specs.Parsed.{accessBy, asRequest}
-use Rattle.judging.specs.Judging.{numberFor, judged}
-use Rattle.judging.specs.declared.asking.Asked.{Asked}
-use Rattle.judging.specs.Asking.{Knows}
+use Rattle.pipeline.specs.Steps.{pipelineIn}
+use Rattle.keeping.specs.declared.Asked.{Asked}
+use Rattle.keeping.specs.declared.kinds.Placed.{Placed}
+use Rattle.keeping.specs.Kinds.{askedBy, lowers, isStep}
+use Rattle.rules.specs.Kept.{HasFirms, HasHolding, HasHolders, HasDone, HasNext}
 
--- ---- one step of what is kept
+-- the firms that the wall counts and the roles that hold all rights used, of each person; the steps done and those that may be next, of
+-- each folder; the levels of all persons and folders
+pub record Kept : Type 0 where
+  pub firms : List ℕ
+  pub holding : List ℕ
+  pub done : List ℕ
+  pub next : List ℕ
+  pub sets : List ℕ
 
--- the entry of person s is met with a level
-unfoldable pub loweredTo : List ℕ → ℕ → ℕ → List ℕ
-loweredTo l s level = withLevelAt l s (meetOf 12 (levelAt l s) level)
+abbrev pub kept : List ℕ → List ℕ → List ℕ → List ℕ → List ℕ → Kept
+kept firms holding done next sets = record { firms = firms; holding = holding; done = done; next = next; sets = sets }
 
-unfoldable pub keptRight : ℕ → List ℕ → ℕ → ℕ → ℕ → List ℕ
-keptRight mask kept s right role =
-    cond (bit mask rolesRule) (set (set kept (64 + s) (withBit (getD kept (64 + s) 0) (right % 64))) s role) kept
+-- what is kept is what the set H of the requests granted so far and the level buffer l give
+pub record Keeps (t : Tables) (H : Request → Bool) (l : List ℕ) (k : Kept) : Type 0 where
+  pub firms : HasFirms t H (k .firms)
+  pub holding : HasHolding t H (k .holding)
+  pub done : HasDone t H (k .done)
+  pub next : HasNext t H (k .next)
+  pub levels : LevelSets t l (k .sets)
 
-unfoldable pub keptFirm : ℕ → List ℕ → ℕ → Bool → ℕ → List ℕ
-keptFirm mask kept s counts firm =
-    cond (bit mask wallRule)
-    (set kept (128 + s) (cond counts (withBit (getD kept (128 + s) 0) (firm % 64)) (getD kept (128 + s) 0))) kept
-
-unfoldable pub keptStep : ℕ → List ℕ → ℕ → ℕ → List ℕ
-keptStep mask kept o p = cond (bit mask pipelineRule) (set kept (192 + o) (withBit (getD kept (192 + o) 0) (p % 64))) kept
-
--- ---- what is kept is what the set gives
-
--- if a rule is in force, the set that it asks about of each declared number j, of members below a width, is at the place base + j
-pub record SetsAt (on : Bool) (known : ℕ → Bool) (base width : ℕ) (P : ℕ → ℕ → Bool) (kept : List ℕ) : Type 0 where
-  pub at : on ≡ true → (j : ℕ) → known j ≡ true → getD kept (base + j) 0 ≡ maskBelow width (P j)
-
-pub record Keeps (t : Tables) (H : Request → Bool) (kept : List ℕ) : Type 0 where
-  pub size : length kept ≡ 320
-  pub rights : SetsAt (inForce t rolesRule) (personDeclared t) 64 64 (used t H) kept
-  pub firms : SetsAt (inForce t wallRule) (personDeclared t) 128 64 (counted t H) kept
-  pub steps : SetsAt (inForce t pipelineRule) (folderDeclared t) 192 16 (done t H) kept
-
--- ---- what is gathered
-
--- what the declared persons below n did, at their places
-pub record PersonsBelow (t : Tables) (H : Request → Bool) (n : ℕ) (kept : List ℕ) : Type 0 where
-  pub size : length kept ≡ 320
-  pub rights : (s : ℕ) → s < n → personDeclared t s ≡ true → getD kept (64 + s) 0 ≡ maskBelow 64 (used t H s)
-  pub firms : (s : ℕ) → s < n → personDeclared t s ≡ true → getD kept (128 + s) 0 ≡ maskBelow 64 (counted t H s)
-
--- a rule in force asks what persons did
-unfoldable pub asksPersons : ℕ → Bool
-asksPersons mask = bit mask wallRule || bit mask rolesRule
-
--- what all persons did is at its places, if a rule in force asks about it
-pub record PersonsGathered (t : Tables) (H : Request → Bool) (kept : List ℕ) : Type 0 where
-  pub size : length kept ≡ 320
-  pub all : asksPersons (t .mask) ≡ true → PersonsBelow t H 64 kept
-
--- the steps that some of the persons did on each folder are at their places, if the pipeline is in force, and the places before them stay
-pub record StepsGathered (mask : ℕ) (h : List ℕ) (persons : ℕ) (before after : List ℕ) : Type 0 where
-  pub size : length after ≡ 320
-  pub left : (j : ℕ) → j < 192 → getD after j 0 ≡ getD before j 0
-  pub all : bit mask pipelineRule ≡ true → (o : ℕ) → o < 128 → getD after (192 + o) 0 ≡ maskBelow 16 (doneBy h persons o)
-
--- ---- a put
-
--- a put of a request: its number, and the history and the levels after it
-pub record Put (t : Tables) (before : State) (r : Request) (number : ℕ) (after : State) : Type 0 where
-  pub judgedAs : number ≡ judged t (setOf (before .history)) (levelAt (before .levels)) r
-  pub left : after ≡ recordedIf t (eqb number 0) before (some r)
-
--- what is lent to a put by what is kept
-pub record Lent : Type 0 where
-  pub state : State
-  pub kept : List ℕ
-
-abbrev pub lent : List ℕ → List ℕ → List ℕ → Lent
-lent h l kept = record { state = state h l; kept = kept }
-
--- a put by what is kept, after which what is kept is again what the set gives
-pub record PutKept (t : Tables) (before : Lent) (r : Request) (number : ℕ) (after : Lent) : Type 0 where
-  pub put : Put t (before .state) r number (after .state)
-  pub keeps : Keeps t (setOf (after .state .history)) (after .kept)
-
--- the lengths of what is lent
-pub record Sized (kept h l : List ℕ) : Type 0 where
-  pub places : length kept ≡ 320
-  pub size : length h ≡ historyBytes
-  pub held : length l ≡ levelsBytes
-
--- tables that a load gives, with this mask and these rights of the roles, and what is kept for them
-pub record Serves (t : Tables) (mask : ℕ) (roles : List ℕ) (before : Lent) : Type 0 where
+-- the numbers at hand are those of the tables, which a load gives: the mask, for each right the roles that hold it, the steps that each
+-- step enables, and the entry of folder o, taken modulo 128, with the firms of its class
+pub record Serves (t : Tables) (mask : ℕ) (holders steps : List ℕ) (e : Folder) (class o : ℕ) : Type 0 where
   pub tables : given t ≡ true
   pub rules : mask ≡ t .mask
-  pub rights : HasRoles t roles
-  pub keeps : Keeps t (setOf (before .state .history)) (before .kept)
+  pub rights : HasHolders t holders
+  pub enabling : steps ≡ t .steps
+  pub entry : e ≡ folderAt t (o % 128)
+  pub firms : class ≡ firmsOf t (classOf t (o % 128))
 
--- person s and folder o are declared, with the folder's entry and the firms of its class
-pub record Parties (t : Tables) (s o : ℕ) (e : Folder) (class : ℕ) : Type 0 where
-  pub person : personDeclared t s ≡ true
-  pub folder : folderDeclared t o ≡ true
-  pub entry : e ≡ folderAt t o
-  pub firms : class ≡ firmsOf t (classOf t o)
+-- a put of a request: its number, the history after it, and what is kept then, of the history's set and the levels after the put
+pub record PutKept (t : Tables) (before : State) (q : Request) (number : ℕ) (history : List ℕ) (k : Kept) : Type 0 where
+  pub judgedAs : number ≡ ladder (requestChecks t (setOf (before .history)) (levelAt (before .levels)) (some q))
+  pub left : history ≡ recordedIf t (eqb number 0) before (some q) .history
+  pub keeps : Keeps t (setOf history) (recordedIf t (eqb number 0) before (some q) .levels) k
 
--- the puts of each kind of request, for all tables that the numbers at hand are those of
-abbrev pub PutsAccess : ℕ → List ℕ → ℕ → Folder → Lent → ℕ → ℕ → Bool → ℕ → Lent → Type 0
-PutsAccess mask roles class e before s o writes number after =
-    (t : Tables) → Serves t mask roles before → Parties t s o e class → PutKept t before (accessBy writes s o) number after
+-- the lengths of what is kept
+pub record Sized (k : Kept) : Type 0 where
+  pub firms : length (k .firms) ≡ 64
+  pub holding : length (k .holding) ≡ 64
+  pub done : length (k .done) ≡ 128
+  pub next : length (k .next) ≡ 128
+  pub sets : length (k .sets) ≡ 192
 
-abbrev pub PutsStep : ℕ → List ℕ → List ℕ → ℕ → Folder → Lent → ℕ → ℕ → ℕ → ℕ → Lent → Type 0
-PutsStep mask roles steps class e before s p o number after =
-    (t : Tables) → Serves t mask roles before → steps ≡ t .steps → Parties t s o e class → PutKept t before (step s p o) number after
+-- the numbers of a request are within bounds
+pub record Within (at : Placed) : Type 0 where
+  pub person : at .person < 64
+  pub place : at .place < 128
+  pub index : at .index < 151552
 
-abbrev pub PutsStart : ℕ → List ℕ → Lent → ℕ → ℕ → ℕ → Lent → Type 0
-PutsStart mask roles before s u number after =
-    (t : Tables) → Serves t mask roles before → personDeclared t s ≡ true → personDeclared t u ≡ true
-    → PutKept t before (start s u) number after
+-- what is kept of persons and folders
+pub record Gathered : Type 0 where
+  pub firms : List ℕ
+  pub holding : List ℕ
+  pub done : List ℕ
+  pub next : List ℕ
 
--- ---- any request
+abbrev pub sets : List ℕ → List ℕ → List ℕ → List ℕ → Gathered
+sets firms holding done next = record { firms = firms; holding = holding; done = done; next = next }
 
--- a turn by what is kept, of a request or of none
-pub record TurnKept (t : Tables) (before : Lent) (r : Option Request) (number : ℕ) (after : Lent) : Type 0 where
-  pub judgedAs : number ≡ numberFor t (setOf (before .state .history)) (levelAt (before .state .levels)) r
-  pub left : after .state ≡ recordedIf t (eqb number 0) (before .state) r
-  pub keeps : Keeps t (setOf (after .state .history)) (after .kept)
+-- what is kept of persons and folders after a request, granted or not, which the wall asks about or not, and which is a granted step or not
+pub record Added (g c b : Bool) (mask : ℕ) (steps : List ℕ) (at : Placed) (firm holders : ℕ) (before after : Gathered) : Type 0 where
+  pub firms : after .firms
+      ≡ cond (bit mask wallRule)
+      (set (before .firms) (at .person)
+      (cond (g && c) (withBit (getD (before .firms) (at .person) 0) (firm % 64)) (getD (before .firms) (at .person) 0)))
+      (before .firms)
+  pub holding : after .holding
+      ≡ cond (bit mask rolesRule)
+      (set (before .holding) (at .person)
+      (cond g (bitAnd (getD (before .holding) (at .person) 0) holders) (getD (before .holding) (at .person) 0)))
+      (before .holding)
+  pub done : after .done
+      ≡ cond b
+      (cond (bit mask pipelineRule)
+      (set (before .done) (at .place) (withBit (getD (before .done) (at .place) 0) (at .step % 64))) (before .done))
+      (before .done)
+  pub next : after .next
+      ≡ cond b
+      (cond (bit mask pipelineRule)
+      (set (before .next) (at .place)
+      (maskBelow 16 (pipelineIn steps (withBit (getD (before .done) (at .place) 0) (at .step % 64) % 65536))))
+      (before .next))
+      (before .next)
 
--- where `class` are the firms of the class of the request's folder
-abbrev pub PutsKept : ℕ → List ℕ → List ℕ → Asked → ℕ → Lent → Parsed → ℕ → Lent → Type 0
-PutsKept mask roles steps asked class before r number after =
-    (t : Tables) → Serves t mask roles before → steps ≡ t .steps → Knows t asked r
-    → (asked .known ≡ true → class ≡ firmsOf t (classOf t (r .target))) → TurnKept t before (asRequest r) number after
+-- what is lent and kept after a request, granted or not, which the wall asks about or not
+pub record Changed (q : Request) (g c : Bool) (mask : ℕ) (steps : List ℕ) (at : Placed) (firm : ℕ) (asked : Asked) (h : List ℕ) (before :
+    Kept)
+    (h′ : List ℕ) (after : Kept) : Type 0
+  where
+    pub history : h′ ≡ cond g (withBitAt h (at .index)) h
+    pub added :
+        Added g c (g && isStep q) mask steps at firm (asked .holders)
+        (sets (before .firms) (before .holding) (before .done) (before .next))
+        (sets (after .firms) (after .holding) (after .done) (after .next))
+    pub levels : after .sets
+        ≡ set (before .sets) (at .person) (cond (g && lowers q) (bitAnd (asked .own) (asked .needed)) (asked .own))
+
+-- a put of a request that was parsed, for all tables that the numbers at hand are those of and every level buffer of which the levels are
+-- kept
+abbrev pub Puts : ℕ → List ℕ → List ℕ → Folder → ℕ → List ℕ → Kept → Parsed → ℕ → List ℕ → Kept → Type 0
+Puts mask holders steps e class h before r number h′ after =
+    (t : Tables) (l : List ℕ) → Serves t mask holders steps e class (r .target) → Keeps t (setOf h) l before
+    → PutKept t (state h l) (askedBy (r .kind) (r .person) (r .target) (r .step)) number h′ after

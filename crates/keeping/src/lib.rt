@@ -1,266 +1,252 @@
-// What a run keeps of what persons did and of what was done on folders, and a put by it: what is kept decides the request, and a granted
-// one is added to it, in a step whose cost does not depend on the history. Places: 0 to 63 for each person a role that held all the rights
-// used at the last look, 64 to 127 the rights used, 128 to 191 the firms that the wall counts, 192 to 319 for each folder the steps done on
-// it. Only what a rule in force asks about is kept up.
+// A put of one request of a run, by what the run keeps of what persons did, of what was done on folders and of levels: the first check that
+// fails is found, and what a granted request changes is brought up to date, in a step whose cost does not depend on the history. No jump
+// tells kinds or answers apart: which comes next cannot be foreseen, and a wrong guess costs more than all the rest.
 ghost use mathlib.Core.Path.{_≡_};
-ghost use mathlib.Core.Bool.{true, not};
-ghost use Prim.Native.Nat.{_+_, _%_, _<_};
-ghost use lib.ListN.{length, getD};
-ghost use Rattle.bits.specs.Bits.{withBit};
-ghost use Rattle.policy.specs.Levels.{levelsBytes, levelAt};
-ghost use Rattle.rules.specs.Sets.{wallIn, rolesIn};
-ghost use Rattle.judging.specs.Judging.{outcomeIf, numberOf};
-ghost use Rattle.judging.specs.Asking.{InRange};
-ghost use Rattle.keeping.specs.Keeping.{
-  keptRight,
-  keptFirm,
-  keptStep,
-  Sized,
-  lent,
-  PutsAccess,
-  PutsStep,
-  PutsStart,
-  PutsKept,
-};
-use judging::asking::Asked;
-use judging::known;
+ghost use mathlib.Core.Bool.{Bool, cond, not, _&&_};
+ghost use lib.Dec.{eqb};
+ghost use lib.Bits.{bitAnd};
+ghost use Rattle.bits.specs.Bits.{bit};
+ghost use Rattle.policy.specs.Tables.{wallRule, rolesRule, pipelineRule};
+ghost use Prim.Native.Nat.{ℕ, _%_, _<_};
+ghost use Rattle.level.specs.Sets.{levelSet};
+ghost use lib.ListN.{length};
+ghost use Rattle.policy.specs.History.{historyBytes};
+ghost use Rattle.policy.specs.Request.{Request, hasPlace};
+ghost use Rattle.keeping.specs.Kinds.{kindRows, RowOf, isStep};
+ghost use Rattle.keeping.specs.Failing.{firstFailing, othersOf, rivals, failingOf, numberAt, grantAt};
+ghost use Rattle.keeping.specs.Keeping.{kept, sets, Sized, Within, Added, Changed, Puts};
+use kinds::Placed;
 use policy::Folder;
-use policy::numbers;
 use request::Parsed;
 
-pub mod gathering;
-pub mod recording;
+pub mod checks;
+pub mod kinds;
+pub mod updates;
 
-// What a run keeps.
-pub type Kept = [u64; 320];
-
-// Person s used a right, and a role holds all the rights that the person used.
-fn keep_right(mask: u8, kept: &mut Kept, s: usize, right: usize, role: usize)
-    requires { ⌜ (length (now kept) ≡ 320) × (s < 64) ⌝ }
-    ensures { λ r. ⌜ now (kept .exit) ≡ keptRight mask (now (kept .entry)) s right role ⌝ }
-{
-    if bits::bit8(mask, policy::ROLES_RULE) {
-        kept[64 + s] = bits::with_bit64(kept[64 + s], right);
-        kept[s] = role as u64;
-    }
+// The sets that a request is judged by: the level that is needed and the person's own, the firms of the folder's class and those that the
+// wall counts, the roles that hold all rights used and those that hold the new one, and the steps that may be next.
+pub struct Asked {
+    pub needed: u64,
+    pub own: u64,
+    pub class: u64,
+    pub counted: u64,
+    pub holding: u64,
+    pub holders: u64,
+    pub next: u64,
 }
 
-// Person s accessed a folder: the wall counts its firm, if it is not public.
-fn keep_firm(mask: u8, kept: &mut Kept, s: usize, folder: Folder)
-    requires { ⌜ (length (now kept) ≡ 320) × (s < 64) ⌝ }
-    ensures { λ r. ⌜ now (kept .exit) ≡ keptFirm mask (now (kept .entry)) s (not (folder .public)) (folder .firm) ⌝ }
-{
-    if bits::bit8(mask, policy::WALL_RULE) {
-        kept[128 + s] = bits::with_bit64_if(!folder.public, kept[128 + s], bits::wide(folder.firm));
-    }
-}
+// The rules beside low-water, which ask what persons did or what was done on folders.
+const ASKING: u8 = 13;
 
-// Step p was done on folder o.
-fn keep_step(mask: u8, kept: &mut Kept, o: usize, p: usize)
-    requires { ⌜ (length (now kept) ≡ 320) × (o < 128) ⌝ }
-    ensures { λ r. ⌜ now (kept .exit) ≡ keptStep mask (now (kept .entry)) o p ⌝ }
-{
-    if bits::bit8(mask, policy::PIPELINE_RULE) {
-        kept[192 + o] = bits::with_bit64(kept[192 + o], p);
-    }
-}
-
-// The number of wall, low-water and roles, and a role that holds the rights used and the new one, where one is asked for and does.
-struct Judged {
-    number: u8,
-    role: usize,
-}
-
-// Wall, low-water and roles for an access by person s to a folder, where `class` are the firms of its class.
-fn judge_access(
+// The wall, the roles and the pipeline, for a request of a kind, which the wall asks about if `counts` is 1.
+fn others_check(
     mask: u8,
-    roles: &[u64; 32],
-    class: u64,
-    folder: Folder,
-    kept: &Kept,
-    l: &[u8],
-    s: usize,
-    right: usize,
-    modifies: bool,
-) -> Judged
-    requires { ⌜ (length (now l) ≡ levelsBytes) × (s < 64) ⌝ }
+    rows: &[u64; 64],
+    kind: u8,
+    at: Placed,
+    counts: u64,
+    firm: usize,
+    asked: Asked,
+) -> u64
+    requires { ⌜ now rows ≡ kindRows ⌝ }
     ensures { λ r. ⌜
-        r .number
-        ≡ numberOf mask (wallIn folder (getD (now (kept .entry)) (128 + s) 0) class)
-        (outcomeIf modifies (folder .level .0) (levelAt (now (l .entry)) s))
-        (rolesIn (now (roles .entry)) (withBit (getD (now (kept .entry)) (64 + s) 0) (right % 64))) true
+        ((q : Request) (c : Bool) → RowOf q kind → counts ≡ cond c 1 0
+        → r
+        ≡ othersOf (bit mask wallRule && (rivals (asked .counted) (asked .class) firm && c))
+        (bit mask rolesRule && eqb (bitAnd (asked .holding) (asked .holders)) 0)
+        (bit mask pipelineRule && (not (bit (asked .next) (at .step % 64)) && isStep q)))
         ⌝ }
 {
-    let wall = rules::wall_permits(folder, kept[128 + s], class);
-    let number = known::first_number(mask, wall, modifies, folder.level, levels::entry(l, s));
-    if number != numbers::GRANTED {
-        return Judged { number, role: 0 };
+    if mask & ASKING == 0 {
+        return 0;
     }
-    let role = known::role_for(mask, roles, kept[64 + s], right, kept[s] as usize);
-    if role > 31 {
-        return Judged {
-            number: numbers::ROLES,
-            role: 0,
-        };
-    }
-    Judged {
-        number: numbers::GRANTED,
-        role,
-    }
+    let wall = checks::wall_check(mask, asked.counted, asked.class, firm, counts);
+    let roles = checks::roles_check(mask, asked.holding, asked.holders);
+    let step = kinds::row(rows, kind, kinds::STEP);
+    wall | roles | checks::pipeline_check(mask, asked.next, at.step, step)
 }
 
-// Puts a read of a folder by person s, or a write, where both are declared.
-fn put_access(
+// The first check that fails for a request of a kind, which the wall asks about if `counts` is 1.
+fn judge(
     mask: u8,
-    roles: &[u64; 32],
-    class: u64,
-    folder: Folder,
-    kept: &mut Kept,
-    h: &mut [u8],
-    l: &mut [u8],
-    s: usize,
-    o: usize,
-    write: bool,
-) -> u8
-    requires { ⌜ Sized (now kept) (now h) (now l) × (s < 64) × (o < 128) ⌝ }
+    rows: &[u64; 64],
+    kind: u8,
+    at: Placed,
+    counts: u64,
+    firm: usize,
+    asked: Asked,
+) -> usize
+    requires { ⌜ now rows ≡ kindRows ⌝ }
     ensures { λ r. ⌜
-        PutsAccess mask (now (roles .entry)) class folder (lent (now (h .entry)) (now (l .entry)) (now (kept .entry))) s o write r
-        (lent (now (h .exit)) (now (l .exit)) (now (kept .exit)))
+        (r < 7)
+        × ((q : Request) (a b : ℕ) (m n c : Bool) → RowOf q kind → at .outside ≡ cond (hasPlace q) 0 1 → counts ≡ cond c 1 0 → a < 65536
+        → b < 65536 → asked .needed ≡ levelSet a m → asked .own ≡ levelSet b n
+        → r
+        ≡ firstFailing
+        (failingOf q mask a b m n c (asked .counted) (asked .class) firm (asked .holding) (asked .holders) (asked .next) (at .step)))
         ⌝ }
 {
-    let right = known::access_right(write, folder.kind);
-    let judged = judge_access(mask, roles, class, folder, kept, l, s, right, write);
-    if judged.number != numbers::GRANTED {
-        return judged.number;
-    }
-    recording::record_access(h, l, s, o, write, folder.level);
-    keep_right(mask, kept, s, right, judged.role);
-    keep_firm(mask, kept, s, folder);
-    numbers::GRANTED
+    let unknown = checks::unknown_check(at.outside, asked.needed, asked.own);
+    let asks = kinds::row(rows, kind, kinds::CHECKS);
+    let level = checks::level_check(mask, asked.needed, asked.own, asks);
+    let others = others_check(mask, rows, kind, at, counts, firm, asked);
+    checks::first_check(unknown, level, others)
 }
 
-// Puts step p on a folder by person s, where all are declared.
-fn put_step(
+// Adds a granted request to what is kept of persons and folders, if `all` has every bit; `made` is 1 for a granted step.
+fn keep(
     mask: u8,
-    roles: &[u64; 32],
     steps: &[u16; 16],
-    class: u64,
-    folder: Folder,
-    kept: &mut Kept,
-    h: &mut [u8],
-    l: &mut [u8],
-    s: usize,
-    p: usize,
-    o: usize,
-) -> u8
-    requires { ⌜ Sized (now kept) (now h) (now l) × (s < 64) × (p < 16) × (o < 128) ⌝ }
+    at: Placed,
+    counts: u64,
+    firm: usize,
+    holders: u64,
+    all: u64,
+    made: u64,
+    firms: &mut [u64; 64],
+    holding: &mut [u64; 64],
+    done: &mut [u64; 128],
+    next: &mut [u64; 128],
+)
+    requires { ⌜
+        Within at × (length (now firms) ≡ 64) × (length (now holding) ≡ 64) × (length (now done) ≡ 128) × (length (now next) ≡ 128)
+        ⌝ }
     ensures { λ r. ⌜
-        PutsStep mask (now (roles .entry)) (now (steps .entry)) class folder
-        (lent (now (h .entry)) (now (l .entry)) (now (kept .entry))) s p o r
-        (lent (now (h .exit)) (now (l .exit)) (now (kept .exit)))
+        ((g c b : Bool) → all ≡ cond g 18446744073709551615 0 → counts ≡ cond c 1 0 → made ≡ cond b 1 0
+        → Added g c b mask (now (steps .entry)) at firm holders
+        (sets (now (firms .entry)) (now (holding .entry)) (now (done .entry)) (now (next .entry)))
+        (sets (now (firms .exit)) (now (holding .exit)) (now (done .exit)) (now (next .exit))))
         ⌝ }
 {
-    let judged = judge_access(mask, roles, class, folder, kept, l, s, 48 + p, true);
-    if judged.number != numbers::GRANTED {
-        return judged.number;
+    if mask & ASKING == 0 {
+        return;
     }
-    let number = known::step_number(mask, steps, (kept[192 + o] % 65536) as u16, p);
-    if number != numbers::GRANTED {
-        return number;
-    }
-    recording::record_step(h, l, s, p, o, folder.level);
-    keep_right(mask, kept, s, 48 + p, judged.role);
-    keep_firm(mask, kept, s, folder);
-    keep_step(mask, kept, o, p);
-    numbers::GRANTED
+    let s = at.person;
+    updates::keep_firm(mask, firms, s, firm, counts, all);
+    updates::keep_roles(mask, holding, s, holders, all);
+    updates::keep_step(mask, steps, done, next, at.place, at.step, made);
 }
 
-// Puts a start of person u by person s, where both are declared.
-fn put_start(
+// Changes what is lent and kept as a granted request of a kind does, if `all` has every bit.
+fn change(
     mask: u8,
-    roles: &[u64; 32],
-    kept: &mut Kept,
+    steps: &[u16; 16],
+    rows: &[u64; 64],
+    kind: u8,
+    at: Placed,
+    counts: u64,
+    firm: usize,
+    asked: Asked,
+    all: u64,
+    firms: &mut [u64; 64],
+    holding: &mut [u64; 64],
+    done: &mut [u64; 128],
+    next: &mut [u64; 128],
+    sets: &mut [u64; 192],
     h: &mut [u8],
-    l: &[u8],
-    s: usize,
-    u: usize,
-) -> u8
-    requires { ⌜ Sized (now kept) (now h) (now l) × (s < 64) × (u < 64) ⌝ }
+)
+    requires { ⌜
+        (now rows ≡ kindRows) × Within at × (length (now h) ≡ historyBytes)
+        × Sized (kept (now firms) (now holding) (now done) (now next) (now sets))
+        ⌝ }
     ensures { λ r. ⌜
-        PutsStart mask (now (roles .entry)) (lent (now (h .entry)) (now (l .entry)) (now (kept .entry))) s u r
-        (lent (now (h .exit)) (now (l .entry)) (now (kept .exit)))
+        ((q : Request) (g c : Bool) → RowOf q kind → all ≡ cond g 18446744073709551615 0 → counts ≡ cond c 1 0
+        → Changed q g c mask (now (steps .entry)) at firm asked (now (h .entry))
+        (kept (now (firms .entry)) (now (holding .entry)) (now (done .entry)) (now (next .entry)) (now (sets .entry))) (now (h .exit))
+        (kept (now (firms .exit)) (now (holding .exit)) (now (done .exit)) (now (next .exit)) (now (sets .exit))))
         ⌝ }
 {
-    let number = known::first_number(mask, true, true, levels::entry(l, u), levels::entry(l, s));
-    if number != numbers::GRANTED {
-        return number;
-    }
-    let role = known::role_for(mask, roles, kept[64 + s], 32, kept[s] as usize);
-    if role > 31 {
-        return numbers::ROLES;
-    }
-    recording::record_start(h, s, u);
-    keep_right(mask, kept, s, 32, role);
-    numbers::GRANTED
+    let s = at.person;
+    updates::set_bit(h, at.index, all);
+    sets[s] = updates::narrowed(
+        asked.own,
+        asked.needed,
+        all & kinds::row(rows, kind, kinds::LOWERS),
+    );
+    let made = all & kinds::row(rows, kind, kinds::STEP);
+    keep(
+        mask,
+        steps,
+        at,
+        counts,
+        firm,
+        asked.holders,
+        all,
+        made,
+        firms,
+        holding,
+        done,
+        next,
+    );
 }
 
-// Puts a request that was parsed, where `class` are the firms of its folder's class.
+// Puts a request of one of the four kinds, on what is lent and kept; `class` are the firms of its folder's class, and `holders` has for
+// each right the roles that hold it.
 pub fn put(
     mask: u8,
-    roles: &[u64; 32],
     steps: &[u16; 16],
-    asked: Asked,
+    rows: &[u64; 64],
+    numbers: &[u8; 8],
+    grants: &[u64; 8],
+    holders: &[u64; 64],
     class: u64,
-    kept: &mut Kept,
+    folder: Folder,
+    firms: &mut [u64; 64],
+    holding: &mut [u64; 64],
+    done: &mut [u64; 128],
+    next: &mut [u64; 128],
+    sets: &mut [u64; 192],
     h: &mut [u8],
-    l: &mut [u8],
-    parsed: Parsed,
+    r: Parsed,
 ) -> u8
-    requires { ⌜ Sized (now kept) (now h) (now l) × InRange asked parsed ⌝ }
-    ensures { λ r. ⌜
-        PutsKept mask (now (roles .entry)) (now (steps .entry)) asked class (lent (now (h .entry)) (now (l .entry)) (now (kept .entry)))
-        parsed r
-        (lent (now (h .exit)) (now (l .exit)) (now (kept .exit)))
+    requires { ⌜
+        (now rows ≡ kindRows) × (now numbers ≡ numberAt) × (now grants ≡ grantAt) × (15 < r .kind) × (r .kind < 20)
+        × (length (now h) ≡ historyBytes) × Sized (kept (now firms) (now holding) (now done) (now next) (now sets))
+        ⌝ }
+    ensures { λ n. ⌜
+        Puts mask (now (holders .entry)) (now (steps .entry)) folder class (now (h .entry))
+        (kept (now (firms .entry)) (now (holding .entry)) (now (done .entry)) (now (next .entry)) (now (sets .entry))) r n (now (h .exit))
+        (kept (now (firms .exit)) (now (holding .exit)) (now (done .exit)) (now (next .exit)) (now (sets .exit)))
         ⌝ }
 {
-    let kind = parsed.kind;
-    let s = bits::wide(parsed.person);
-    let o = bits::wide(parsed.target);
-    let p = bits::wide(parsed.step);
-    match kind {
-        16..=17 => {
-            if !asked.known {
-                return numbers::UNDECLARED;
-            }
-            put_access(
-                mask,
-                roles,
-                class,
-                asked.folder,
-                kept,
-                h,
-                l,
-                s,
-                o,
-                kind == 17,
-            )
-        }
-        18 => {
-            if !asked.persons {
-                return numbers::UNDECLARED;
-            }
-            put_start(mask, roles, kept, h, l, s, o)
-        }
-        19 => {
-            if !asked.known {
-                return numbers::UNDECLARED;
-            }
-            if p > 15 {
-                return numbers::UNDECLARED;
-            }
-            put_step(mask, roles, steps, class, asked.folder, kept, h, l, s, p, o)
-        }
-        0..=15 => numbers::REQUEST_CUT,
-        20..=255 => numbers::REQUEST_CUT,
-    }
+    let kind = r.kind;
+    let at = kinds::place(rows, r);
+    let s = at.person;
+    let o = at.place;
+    let p = at.step;
+    let target = at.set;
+    let counts = checks::counts(folder.public, kinds::row(rows, kind, kinds::ACCESS));
+    let firm = bits::wide(folder.firm);
+    let held = holders[kinds::right(rows, kind, folder.kind, p)];
+    let needed = sets[target];
+    let own = sets[s];
+    let asked = Asked {
+        needed,
+        own,
+        class,
+        counted: firms[s],
+        holding: holding[s],
+        holders: held,
+        next: next[o],
+    };
+    let first = judge(mask, rows, kind, at, counts, firm, asked);
+    let all = grants[first];
+    change(
+        mask,
+        steps,
+        rows,
+        kind,
+        at,
+        counts,
+        firm,
+        asked,
+        all,
+        firms,
+        holding,
+        done,
+        next,
+        sets,
+        h,
+    );
+    numbers[first]
 }

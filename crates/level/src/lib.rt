@@ -3,6 +3,8 @@ ghost use mathlib.Core.Path.{_≡_};
 ghost use Prim.Native.Nat.{_%_, min};
 ghost use Rattle.level.specs.Levels.{rankOf, compartmentsOf, levelOf, compareOf, meetOf};
 
+pub mod sets;
+
 // The smaller of two numbers.
 fn smaller(a: u16, b: u16) -> u16
     ensures { λ r. ⌜ r ≡ min a b ⌝ }

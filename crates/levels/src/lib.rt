@@ -6,6 +6,9 @@ ghost use Prim.Native.Nat.{_<_};
 ghost use lib.ListN.{length};
 ghost use Rattle.level.specs.Levels.{meetOf};
 ghost use Rattle.policy.specs.Levels.{levelsBytes, levelAt, withLevelAt, firstLevels};
+
+pub mod sets;
+
 use level::Level;
 use policy::Person;
 use policy::Tables;

@@ -69,8 +69,7 @@ pub fn put(t: Tables, h: &mut [u8], levels: &mut [u8], request: &[u8]) -> u8
     if number != numbers::GRANTED {
         return number;
     }
-    let turn = alone::put_next(t, h, levels, request);
-    turn.number
+    alone::put(t, h, levels, request)
 }
 
 // A refused run.

@@ -112,7 +112,7 @@ module _ (t : Tables) (H : Request → Bool) (s : ℕ) where
   counts-here o a = rw a
 
   -- the rights of a read and a write
-  rights-more : (n : ℕ) {wasRead wasWritten : Bool} → folderAt t n .kind < 16 → did t H (read s n) ≡ wasRead
+  pub rights-more : (n : ℕ) {wasRead wasWritten : Bool} → folderAt t n .kind < 16 → did t H (read s n) ≡ wasRead
       → did t H (write s n) ≡ wasWritten
       → withBitIf wasWritten (withBitIf wasRead (maskBelow 64 (λ x. anyBelow n (usedOn t H s x))) (folderAt t n .kind))
       (16 + folderAt t n .kind)
@@ -186,7 +186,7 @@ module _ (t : Tables) (h : List ℕ) (s : ℕ) (person : personDeclared t s ≡ 
 -- ---- the whole
 
 -- some number has one property or the other
-any-or : (n : ℕ) (p q : ℕ → Bool) → anyBelow n (λ k. p k || q k) ≡ anyBelow n p || anyBelow n q
+pub any-or : (n : ℕ) (p q : ℕ → Bool) → anyBelow n (λ k. p k || q k) ≡ anyBelow n p || anyBelow n q
 any-or n p q =
     bool-ext _ _
     (λ e.
@@ -232,7 +232,7 @@ module _ (t : Tables) (h : List ℕ) (s : ℕ) (person : personDeclared t s ≡ 
       ∙ or-comm (anyBelow 64 (λ u. did t (setOf h) (start s u) && eqb 32 x)) (anyBelow 128 (λ o. on o || steps o))
 
   -- the rights of reads and writes, with those of the steps and the starts, as a set
-  rights-whole : {steps persons : ℕ} → persons ≡ maskBelow 64 (personDeclared t) → steps ≡ maskBelow 16 (appliedAt t h s)
+  pub rights-whole : {steps persons : ℕ} → persons ≡ maskBelow 64 (personDeclared t) → steps ≡ maskBelow 16 (appliedAt t h s)
       → rightsWith (maskBelow 64 (λ x. anyBelow 128 (usedOn t (setOf h) s x))) steps (started persons h s)
       ≡ maskBelow 64 (used t (setOf h) s)
   unfolding rightsWith started

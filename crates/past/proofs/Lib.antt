@@ -7,5 +7,6 @@ pub mod Steppers
 pub mod VisitLaws
 pub mod GatheringLaws
 pub mod Gathered
+pub mod AccessRights
 pub mod PastLaws
 pub mod WallLaws

@@ -1,5 +1,4 @@
--- What all persons did, gathered at once: for each folder the set of the persons who stepped on it, and for each step the set of the
--- persons who applied it to some declared folder.
+-- What all persons did, gathered at once: for each folder the set of the persons who stepped on it; and the steps that one person applied.
 use Prim.Native.Nat.{ℕ, _<_}
 use mathlib.Core.Path.{_≡_}
 use mathlib.Core.Bool.{Bool, _&&_}
@@ -37,7 +36,3 @@ appliedBelow t h s n = maskBelow 16 (λ p. anyBelow n (λ o. appliedOn (folderAt
 -- the steps after folder o, if `before` are those before it
 unfoldable pub appliedAfter : Tables → List ℕ → ℕ → ℕ → ℕ → ℕ
 appliedAfter t h s o before = bitOr before (maskBelow 16 (appliedOn (folderAt t o) h s o))
-
--- for each step the persons who applied it to some declared folder
-abbrev pub AppliersOf : Tables → List ℕ → List ℕ → Type 0
-AppliersOf t h all = FirstAre 16 16 (λ p. maskBelow 64 (λ s. appliedAt t h s p)) all

@@ -31,11 +31,15 @@ firmOn t p f o = p o && eqb (folderAt t o .firm) f
 unfoldable pub firmsBelow : Tables → (ℕ → Bool) → ℕ → ℕ
 firmsBelow t p n = maskBelow 64 (λ f. anyBelow n (firmOn t p f))
 
+-- the rights that person s used by reads and writes of the folders below n
+abbrev pub rightsBelow : Tables → (Request → Bool) → ℕ → ℕ → ℕ
+rightsBelow t H s n = maskBelow 64 (λ x. anyBelow n (usedOn t H s x))
+
 -- what person s did on the folders below n, without the rights of steps
 unfoldable pub pastBelow : Tables → (Request → Bool) → ℕ → ℕ → Past
 pastBelow t H s n =
     record {
-      rights = maskBelow 64 (λ x. anyBelow n (usedOn t H s x));
+      rights = rightsBelow t H s n;
       firms = firmsBelow t (accessed t H s) n;
       counted = firmsBelow t (counts t H s) n;
     }

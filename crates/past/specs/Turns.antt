@@ -46,6 +46,15 @@ steppedAt h s o = anyBelow 16 (stepAt h s o)
 unfoldable pub touchedAt : List ℕ → ℕ → ℕ → Bool
 touchedAt h s o = readAt h s o || writtenAt h s o || steppedAt h s o
 
+-- the rights after a folder whose entry is e and which was read and written or not, if it is declared
+unfoldable pub rightsAfter : Folder → Bool → Bool → ℕ → ℕ
+rightsAfter e wasRead wasWritten before =
+    cond (e .declared) (withBitIf wasWritten (withBitIf wasRead before (e .kind)) (16 + e .kind)) before
+
+-- the same of folder first + i, with bit i of two words
+unfoldable pub rightsTurn : Tables → ℕ → ℕ → ℕ → ℕ → ℕ → ℕ
+rightsTurn t first reads writes i = rightsAfter (folderAt t (first + i)) (bit reads i) (bit writes i)
+
 -- what the person did after a folder whose entry is e and which was read and written or not, if it is declared: without the rights of steps
 unfoldable pub pastWith : Folder → Bool → Bool → Past → Past
 pastWith e wasRead wasWritten before =

@@ -1,75 +1,16 @@
-// The steps that persons applied to declared folders, which are the rights of steps that they used: for all persons at once, and for one
-// person alone. The persons who applied step p to folder o are one word of a history.
+// The steps that a person applied to declared folders, which are the rights of steps that the person used.
 ghost use mathlib.Core.Path.{_≡_};
-ghost use Prim.Native.Nat.{_+_, _%_, _≤_, _<_};
-ghost use lib.ListN.{length, getD};
-ghost use Rattle.bits.specs.Bits.{bit, maskBelow};
+ghost use Prim.Native.Nat.{_+_, _≤_, _<_};
+ghost use lib.ListN.{length};
+ghost use Rattle.bits.specs.Bits.{maskBelow};
 ghost use Rattle.policy.specs.History.{historyBytes};
 ghost use Rattle.past.specs.Folders.{foldersOf};
-ghost use Rattle.past.specs.Gathering.{AppliersOf, appliedOn, appliedAt, appliedBelow};
-ghost use Rattle.past.specs.Turns.{InBounds, withBitIf, steppedAt};
+ghost use Rattle.past.specs.Gathering.{appliedOn, appliedAt, appliedBelow};
+ghost use Rattle.past.specs.Turns.{InBounds, steppedAt};
 use crate::Folders;
 use crate::steps;
 use policy::Folder;
 use policy::Tables;
-
-// The set of the persons who applied step p to folder o, whose entry is `folder`; of an undeclared folder, none.
-fn appliers_on(folder: Folder, h: &[u8], p: usize, o: usize) -> u64
-    requires { ⌜ (length (now h) ≡ historyBytes) × (p < 16) × (o < 128) ⌝ }
-    ensures { λ r. ⌜ r ≡ maskBelow 64 (λ s. appliedOn folder (now (h .entry)) s o p) ⌝ }
-{
-    if folder.declared {
-        return history::word_at(h, 2560 + 128 * o + 8 * p);
-    }
-    0
-}
-
-// The set of the persons who applied step p to some declared folder.
-fn appliers(t: Tables, h: &[u8], p: usize) -> u64
-    requires { ⌜ (length (now h) ≡ historyBytes) × (p < 16) ⌝ }
-    ensures { λ r. ⌜ r ≡ maskBelow 64 (λ s. appliedAt t (now (h .entry)) s p) ⌝ }
-{
-    let mut set: u64 = 0;
-    for o in 0..128 {
-        let folder = t.folders[o];
-        set = set | appliers_on(folder, h, p, o);
-    }
-    set
-}
-
-// For each step the set of the persons who applied it to some declared folder.
-pub fn all_appliers(t: Tables, h: &[u8]) -> [u64; 16]
-    requires { ⌜ length (now h) ≡ historyBytes ⌝ }
-    ensures { λ r. ⌜ AppliersOf t (now (h .entry)) r ⌝ }
-{
-    let mut all: [u64; 16] = [0; 16];
-    for p in 0..16 {
-        all[p] = appliers(t, h, p);
-    }
-    all
-}
-
-// A set of steps, with step p if person s is among those who applied it.
-fn with_step(steps: u16, appliers: u64, s: usize, p: usize) -> u16
-    ensures { λ r. ⌜ r ≡ withBitIf (bit appliers (s % 64)) steps (p % 16) ⌝ }
-{
-    if bits::bit64(appliers, s) {
-        return bits::with_bit16(steps, p);
-    }
-    steps
-}
-
-// The set of the steps whose appliers have person s among them.
-pub fn applied_among(appliers: &[u64; 16], s: usize) -> u16
-    requires { ⌜ s < 64 ⌝ }
-    ensures { λ r. ⌜ r ≡ maskBelow 16 (λ p. bit (getD (now (appliers .entry)) p 0) s) ⌝ }
-{
-    let mut steps: u16 = 0;
-    for p in 0..16 {
-        steps = with_step(steps, appliers[p], s, p);
-    }
-    steps
-}
 
 // The set of the steps that person s applied to folder o, whose entry is `folder`; to an undeclared folder, none.
 fn applied_on(folder: Folder, h: &[u8], s: usize, o: usize) -> u16
@@ -115,4 +56,34 @@ pub fn applied_by(t: Tables, h: &[u8], s: usize, stepped: Folders) -> u16
     }
     let low = applied_over(t, h, s, 0, stepped.low, 0);
     applied_over(t, h, s, 64, stepped.high, low)
+}
+
+// The set of all steps.
+pub const ALL_STEPS: u16 = 65535;
+
+// The set of the steps that person s applied to folder o, whose entry is `folder`, if the person is among the steppers on it.
+fn applied_if(folder: Folder, h: &[u8], s: usize, o: usize) -> u16
+    requires { ⌜ InBounds (now h) s o ⌝ }
+    ensures { λ r. ⌜ r ≡ maskBelow 16 (appliedOn folder (now (h .entry)) s o) ⌝ }
+{
+    if !bits::bit64(steps::steppers(h, o), s) {
+        return 0;
+    }
+    applied_on(folder, h, s, o)
+}
+
+// The set of the steps that person s applied to declared folders: folder after folder, until all steps are found.
+pub fn steps_applied(t: Tables, h: &[u8], s: usize) -> u16
+    requires { ⌜ (length (now h) ≡ historyBytes) × (s < 64) ⌝ }
+    ensures { λ r. ⌜ r ≡ maskBelow 16 (appliedAt t (now (h .entry)) s) ⌝ }
+{
+    let mut steps: u16 = 0;
+    for o in 0..128 {
+        let folder = t.folders[o];
+        steps = steps | applied_if(folder, h, s, o);
+        if steps == ALL_STEPS {
+            return steps;
+        }
+    }
+    steps
 }

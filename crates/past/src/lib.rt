@@ -1,11 +1,10 @@
 // What a person did: the rights used, the firms opened and the firms that the wall counts. The pass visits the folders that the person
-// read, wrote in or stepped on, and no others.
-// What all persons did can be gathered at once: `steps` finds the persons who stepped on each folder, and `applied` those who applied each
-// step; both also tell what one person did. `wall` judges one access alone, and the current level is apart, in `levels`.
-// Each public function is called for a declared person, over tables that a load gives and a history of 18,944 bytes.
-// Indexes of bits (document 01, "History"), for person s: 128 * s + o for a read of folder o, 8192 more for a write,
-// 16384 + 64 * s + u for a start of person u, 20480 + 64 * (16 * o + p) + s for step p on folder o.
-// Rights: the folder's kind for a read, 16 + kind for a write, 32 for a start, 48 + p for step p.
+// read, wrote in or stepped on, and no others. `steps` finds the persons who stepped on each folder, and the folders on which one person
+// did; `applied` finds the steps that a person applied. `wall` and `rights` find what the wall and the roles ask about for one request
+// alone, and the current level is apart, in `levels`. Each public function is called for a declared person, over tables that a load gives
+// and a history of 18,944 bytes. Indexes of bits (document 01, "History"), for person s: 128 * s + o for a read of folder o, 8192 more
+// for a write, 16384 + 64 * s + u for a start of person u, 20480 + 64 * (16 * o + p) + s for step p on folder o. Rights: the folder's
+// kind for a read, 16 + kind for a write, 32 for a start, 48 + p for step p.
 ghost use mathlib.Core.Path.{_≡_};
 ghost use mathlib.Core.Bool.{true};
 ghost use Prim.Native.Nat.{_+_, _%_, _≤_, _<_};
@@ -24,6 +23,7 @@ use policy::Tables;
 
 pub mod applied;
 pub mod levels;
+pub mod rights;
 pub mod steps;
 pub mod wall;
 
@@ -111,7 +111,7 @@ fn past_over(t: Tables, h: &[u8], s: usize, first: usize, stepped: u64, before: 
 }
 
 // Whether person s started a person of a set: the starts of person s are one word of the history.
-fn has_started(h: &[u8], s: usize, persons: u64) -> bool
+pub fn has_started(h: &[u8], s: usize, persons: u64) -> bool
     requires { ⌜ (length (now h) ≡ historyBytes) × (s < 64) ⌝ }
     ensures { λ r. ⌜ r ≡ started persons (now (h .entry)) s ⌝ }
 {
@@ -119,7 +119,7 @@ fn has_started(h: &[u8], s: usize, persons: u64) -> bool
 }
 
 // The rights, with those of a set of steps and that of starts.
-fn rights_with(rights: u64, steps: u16, starts: bool) -> u64
+pub fn rights_with(rights: u64, steps: u16, starts: bool) -> u64
     ensures { λ r. ⌜ r ≡ rightsWith rights steps starts ⌝ }
 {
     bits::with_bit64_if(starts, rights | (bits::word16(steps) << 48), 32)

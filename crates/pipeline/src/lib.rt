@@ -71,3 +71,37 @@ pub fn permits(steps: &[u16; 16], done: u16, q: usize) -> bool
     }
     is_led_to(steps, done, q)
 }
+
+// The steps that step p leads to: those that it enables, if it is done and enables no step done.
+fn led_by(enabled: u16, done: u16, p: usize) -> u16
+    ensures { λ r. ⌜ r ≡ maskBelow 16 (leads enabled done p) ⌝ }
+{
+    if bits::both(bits::bit16(done, p), enabled & done == 0) {
+        return enabled;
+    }
+    0
+}
+
+// The steps that the pipeline permits on a folder on which these steps are done, one at least: those that a step leads to, which
+// "create" is not.
+fn led_steps(steps: &[u16; 16], done: u16) -> u64
+    requires { ⌜ 0 < done ⌝ }
+    ensures { λ r. ⌜ r ≡ maskBelow 16 (pipelineIn (now (steps .entry)) done) ⌝ }
+{
+    let mut next: u16 = 0;
+    for p in 0..16 {
+        next = next | led_by(steps[p], done, p);
+    }
+    bits::word16(next & 65534)
+}
+
+// The steps that the pipeline permits on a folder on which these steps are done: where none is, "create" alone, without a look at the
+// others.
+pub fn next_steps(steps: &[u16; 16], done: u16) -> u64
+    ensures { λ r. ⌜ r ≡ maskBelow 16 (pipelineIn (now (steps .entry)) done) ⌝ }
+{
+    if done == 0 {
+        return 1;
+    }
+    led_steps(steps, done)
+}

@@ -3,21 +3,24 @@
 use Prim.Native.Nat.{ℕ, zero, suc, _+_, _-_, _≤_, _<_}
 use native.Mathlib.Numerals.{add-one}
 use native.Mathlib.Omega.{arith}
-use mathlib.Core.Bool.{cond}
+use mathlib.Core.Bool.{false, cond}
 use mathlib.Core.List.{List}
-use mathlib.Core.Logic.{⊎-elim}
+use mathlib.Core.Logic.{_⊎_, inl, inr, ⊎-elim}
 use mathlib.Core.Path.{_≡_, refl, sym, ap, _∙_, subst, subst₂}
 use lib.Dec.{eqb, ltb}
 use lib.ListN.{length, getD, drop, drop-of-length-le}
 use lib.Seq.{drop-cons, drop-drop}
-use borrow.Author.Tests.{lt-ltb, le-ltb, ltb-true, ltb-false, eq-eqb, ne-eqb}
+use borrow.Author.Tests.{lt-ltb, le-ltb, ltb-true, ltb-false, eqb-true, eq-eqb, ne-eqb}
 use Rattle.bits.proofs.Booleans.{decide}
 use Rattle.policy.specs.declared.Tables.{Tables}
 use Rattle.policy.specs.Tables.{emptyTables}
-use Rattle.policy.specs.Rulebook.{Record, bodyLength, recordOf, declare, refusedBook, ended, loadFrom, loadBook}
+use Rattle.policy.specs.Checks.{ladder}
+use Rattle.policy.specs.Rulebook.{Record, bodyLength, recordOf, declare, endChecks, refusedBook, ended, loadFrom, loadBook}
 use Rattle.rulebook.specs.declared.records.Reading.{Reading}
-use Rattle.rulebook.specs.Readings.{recordRead, WholeRead, ReadAt, numberOf, numberAt}
-use Rattle.rulebook.proofs.NumberLaws.{number-is, read-whole}
+use Rattle.rulebook.specs.Readings.{recordRead, WholeRead, ReadAt, numberOf, numberAt, passedBook}
+use Rattle.rulebook.specs.Steps.{endNumber}
+use Rattle.rulebook.proofs.NumberLaws.{number-is, other-number, read-whole}
+use Rattle.rulebook.proofs.StepLaws.{end-number-is}
 
 -- some number of turns over the bytes from an offset on, after the tables t, gives what the whole book gives
 pub record Left (book : List ℕ) (at : ℕ) (t : Tables) : Type 0 where
@@ -113,3 +116,50 @@ module _ {book : List ℕ} {at : ℕ} {t : Tables} {r : Reading} {n : ℕ}
 
     pub less : length book - r .next < length book - at
     less = omega (arith, whole .there, whole .next)
+
+-- ---- the checks of the end record
+
+-- the number of a reading: at the end record that of its checks, and else that of the record
+abbrev pub Asked : Tables → Reading → ℕ → Type 0
+Asked t r n = ((r .kind ≡ 0 → ⊥) × (n ≡ numberOf t r)) ⊎ ((r .kind ≡ 0) × (n ≡ endNumber (r .number) (t .steps)))
+
+module _ (t : Tables) (r : Reading) where
+  -- the end record asks nothing of the tables before its own checks
+  own-number : r .kind ≡ 0 → numberOf t r ≡ r .number
+  own-number e =
+      let no : (k : ℕ) → 0 ≡ suc k → ⊥ = λ k z. omega (arith, z) in
+      sym (other-number t r 0 e (no 1) (no 2) (no 3) (no 4) (no 5) (no 6))
+
+  -- where the end record has no number of its own, its checks decide
+  checks-decide : {n : ℕ} → n ≡ endNumber (r .number) (t .steps) → r .number ≡ 0 → ladder (endChecks t) ≡ n
+  checks-decide is none = sym (is ∙ end-number-is t (r .number) ∙ rw (eq-eqb _ _ none))
+
+  own-decides : {n : ℕ} → n ≡ endNumber (r .number) (t .steps) → eqb (r .number) 0 ≡ false → r .number ≡ n
+  own-decides is some = sym (is ∙ end-number-is t (r .number) ∙ rw some)
+
+module _ {book : List ℕ} {at : ℕ} {t : Tables} {r : Reading} {n : ℕ} (left : Left book at t) (read : ReadAt book at r) where
+  pub passes : Asked t r n → n ≡ 0 → numberOf t r ≡ 0
+  passes (inl (k, is)) z = sym is ∙ z
+  passes (inr (k, is)) z =
+      own-number t r k ∙ ⊎-elim (λ e. eqb-true _ _ e) (λ f. own-decides t r is f ∙ z) (decide (eqb (r .number) 0))
+
+  pub refused-by : Asked t r n → (n ≡ 0 → ⊥) → refusedBook n at ≡ loadBook book
+  unfolding ended
+  refused-by (inl (k, is)) z = refused-is left read is z
+  refused-by (inr (k, is)) z =
+      ⊎-elim
+      (λ e.
+      let none = eqb-true _ _ e in
+      let decided = checks-decide t r is none in
+      let refuses : ended at t ≡ refusedBook n at = rw (decided, ne-eqb _ _ z) in
+      sym refuses ∙ ended-is left read refl (own-number t r k ∙ none) k)
+      (λ f. refused-is left read (sym (own-number t r k ∙ own-decides t r is f)) z)
+      (decide (eqb (r .number) 0))
+
+  pub ended-by : Asked t r n → n ≡ 0 → r .kind ≡ 0 → passedBook at t ≡ loadBook book
+  unfolding ended passedBook
+  ended-by (inl (k, is)) z e = absurd (k e)
+  ended-by (inr (k, is)) z e =
+      let none = sym (own-number t r k) ∙ passes (inr (k, is)) z in
+      let passed : ended at t ≡ passedBook at t = rw (checks-decide t r is none ∙ z) in
+      sym passed ∙ ended-is left read refl (own-number t r k ∙ none) k

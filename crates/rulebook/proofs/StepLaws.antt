@@ -15,8 +15,9 @@ use Rattle.bits.proofs.Bounds.{any-ext}
 use Rattle.bits.proofs.BitLaws.{bit-or, bit-zero}
 use Rattle.policy.specs.declared.Tables.{Tables}
 use Rattle.policy.specs.Tables.{enabledBy, enables}
-use Rattle.policy.specs.Rulebook.{reaches, hasCircle, isLoose, hasLoose}
-use Rattle.rulebook.specs.Steps.{joined, through, closed, onItself, circleIn, enabledBelow, looseAmong, looseIn}
+use Rattle.policy.specs.Checks.{ladder}
+use Rattle.policy.specs.Rulebook.{reaches, hasCircle, isLoose, hasLoose, endChecks}
+use Rattle.rulebook.specs.Steps.{joined, through, closed, onItself, circleIn, enabledBelow, looseAmong, looseIn, endNumber}
 
 -- ---- circles
 
@@ -69,3 +70,14 @@ loose-is t =
     any-ext 16 (λ p. looseAmong (enabledBelow 16 (t .steps)) (getD (t .steps) p 0) p) (isLoose t)
     (λ p l.
     ap (λ (b : Bool). not (eqb p 0) && not (eqb (enabledBy t p) 0) && not b) (bit-enabled (t .steps) 16 p))
+
+-- ---- the checks of the end record
+
+pub end-number-is : (t : Tables) (n : ℕ) → endNumber n (t .steps) ≡ cond (eqb n 0) (ladder (endChecks t)) n
+unfolding endNumber endChecks ladder
+end-number-is t n = ap (λ (m : ℕ). cond (eqb n 0) m n) (rw (circle-is t, loose-is t) (turned (hasCircle t) (hasLoose t)))
+  where
+    turned : (a b : Bool) → _≡_ {A = ℕ} (cond a 8 (cond b 9 0)) (cond (not a) (cond (not b) 0 9) 8)
+    turned true b = refl
+    turned false true = refl
+    turned false false = refl

@@ -5,6 +5,7 @@ use mathlib.Core.List.{List, [], _∷_}
 use mathlib.Core.Path.{_≡_}
 use lib.Dec.{eqb, ltb, leb}
 use lib.ListN.{length, getD, drop}
+use Rattle.policy.specs.declared.Loaded.{Loaded}
 use Rattle.policy.specs.declared.Tables.{Tables}
 use Rattle.policy.specs.Checks.{Check, _else_, ladder}
 use Rattle.policy.specs.Rulebook.{
@@ -97,3 +98,7 @@ numberOf t r = let tables = ladder (tableChecks t (recordRead r)) in cond (eqb (
 unfoldable pub numberAt : List ℕ → ℕ → Tables → ℕ
 numberAt book at t =
     cond (ltb at (length book)) (ladder (recordChecks at t (getD book at 0) (drop (at + 1) book))) 1
+
+-- a book that passed, with its end record at an offset
+unfoldable pub passedBook : ℕ → Tables → Loaded
+passedBook at t = record { number = 0; offset = at; tables = t }

@@ -39,3 +39,7 @@ looseAmong enabled set p = not (eqb p 0) && not (eqb set 0) && not (bit enabled 
 
 unfoldable pub looseIn : List ℕ → Bool
 looseIn sets = anyBelow 16 (λ p. looseAmong (enabledBelow 16 sets) (getD sets p 0) p)
+
+-- the number of a book that ends with these sets, if it has none before
+unfoldable pub endNumber : ℕ → List ℕ → ℕ
+endNumber number sets = cond (eqb number 0) (cond (circleIn sets) 8 (cond (looseIn sets) 9 0)) number

@@ -1,7 +1,8 @@
 // Loading a rulebook (document 01, "Rulebook"): the tables that its records declare, or the number and the offset of what refuses it.
 ghost use mathlib.Core.Path.{_≡_};
-ghost use Rattle.policy.specs.Rulebook.{refusedBook, ended, loadBook, given};
+ghost use Rattle.policy.specs.Rulebook.{refusedBook, loadBook, given};
 ghost use Rattle.policy.specs.Calls.{restOf};
+ghost use Rattle.rulebook.specs.Readings.{passedBook};
 use logic::both;
 use policy::Loaded;
 use policy::Tables;
@@ -24,17 +25,10 @@ fn refuse(number: u8, at: usize) -> Loaded
     }
 }
 
-// The end record, after its checks.
+// A book that passed, with its end record at an offset.
 fn finish(at: usize, t: Tables) -> Loaded
-    ensures { λ r. ⌜ r ≡ ended at t ⌝ }
+    ensures { λ r. ⌜ r ≡ passedBook at t ⌝ }
 {
-    let sets = t.steps;
-    if steps::has_circle(sets) {
-        return refuse(numbers::CIRCLE, at);
-    }
-    if steps::has_loose(sets) {
-        return refuse(numbers::LOOSE_STEP, at);
-    }
     Loaded {
         number: numbers::GRANTED,
         offset: at,
@@ -62,7 +56,8 @@ pub fn load(book: &[u8]) -> Loaded
             5 => number = records::declared_number(t.roles[own].declared),
             6 => number = records::pair_number(t.steps[own], named),
             7 => number = records::mark_number(t.folders[own].public, t.folders[own].declared),
-            0 | 1 | 8..=255 => {}
+            0 => number = steps::end_number(number, &t.steps),
+            1 | 8..=255 => {}
         }
         if number != numbers::GRANTED {
             return refuse(number, at);

@@ -2,8 +2,9 @@
 ghost use mathlib.Core.Path.{_≡_};
 ghost use Prim.Native.Nat.{_<_, _%_};
 ghost use Rattle.bits.specs.Bits.{bit};
-ghost use Rattle.rulebook.specs.Steps.{joined, through, closed, circleIn, enabledBelow, looseAmong, looseIn};
+ghost use Rattle.rulebook.specs.Steps.{joined, through, closed, circleIn, enabledBelow, looseAmong, looseIn, endNumber};
 use crate::logic::either;
+use policy::numbers;
 
 // A set of steps, with the members of row, the set of step k, where k is in it.
 fn join(k: usize, row: u16, set: u16) -> u16
@@ -101,4 +102,22 @@ pub fn has_loose(sets: [u16; 16]) -> bool
         p += 1;
     }
     found
+}
+
+// The number of a book that ends with these sets, where no record before has one: that of a circle, or of a step that enables something and
+// is not enabled.
+pub fn end_number(number: u8, steps: &[u16; 16]) -> u8
+    ensures { λ r. ⌜ r ≡ endNumber number (now (steps .entry)) ⌝ }
+{
+    if number != numbers::GRANTED {
+        return number;
+    }
+    let sets = *steps;
+    if has_circle(sets) {
+        return numbers::CIRCLE;
+    }
+    if has_loose(sets) {
+        return numbers::LOOSE_STEP;
+    }
+    numbers::GRANTED
 }

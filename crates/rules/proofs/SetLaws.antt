@@ -9,7 +9,6 @@ use mathlib.Core.Bool.{Bool, true, false, not, _&&_, _||_, or-comm}
 use mathlib.Core.List.{List}
 use lib.Dec.{eqb, leb, ltb}
 use lib.Bits.{bitAnd, and-le-l}
-use lib.Pow.{pow-pos}
 use lib.ListN.{getD}
 use borrow.Author.Tests.{eqb-true, eq-eqb, not-true, leb-true, lt-ltb}
 use Rattle.bits.specs.Bits.{bit, withBit, maskBelow}
@@ -234,24 +233,7 @@ module _ (t : Tables) (H : Request → Bool) (s : ℕ) where
           any-ext 32 (λ k. covers (getD own k 0) wanted) (λ k. roleDeclared t k && roleCovers t H r k)
           (λ k l. ap₂ covers (has .at k l) e ∙ covers-at k l)
 
--- ---- the new right alone
-
--- a role that holds the new right and others holds the new right
-covers-new : (own u x : ℕ) → x < 64 → covers own (withBit u x) ≡ true → covers own (withBit 0 x) ≡ true
-unfolding covers
-covers-new own u x l e =
-    let new : bit (withBit u x) x ≡ true = bit-with u x x ∙ or-left (eqb x x) _ (eq-eqb x x refl) in
-    let held = subset-bit (withBit u x) own x (eqb-true _ _ e) new in
-    eq-eqb _ _
-    (bit-subset 64 (withBit 0 x) own (with-lt 64 0 x (pow-pos 64) l) (λ k m b.
-    ⊎-elim (λ i. rw (eqb-true k x i) held) (λ z. absurd (false-elim (bit 0 k) (bit-zero k) z))
-    (or-cases (eqb k x) _ (sym (bit-with 0 x k) ∙ b))))
-
--- where no role holds the new right, none holds it and others
-pub none-holds : (own : List ℕ) (u x : ℕ) → x < 64 → rolesIn own (withBit 0 x) ≡ false → rolesIn own (withBit u x) ≡ false
-unfolding rolesIn
-none-holds own u x l none =
-    false-intro (rolesIn own (withBit u x)) (λ e.
-    let (k, m, c) = any-some 32 (λ k. covers (getD own k 0) (withBit u x)) e in
-    false-elim (rolesIn own (withBit 0 x)) none
-    (some-any 32 (λ k. covers (getD own k 0) (withBit 0 x)) k m (covers-new (getD own k 0) u x l c)))
+      -- the roles, role by role
+      pub roles-any : roles t H r ≡ anyBelow 32 (λ k. covers (roleAt t k .rights) (withBit (maskBelow 64 (used t H s)) (right t r % 64)))
+      unfolding roles rights
+      roles-any = any-ext 32 _ _ (λ k l. sym (covers-at k l))

@@ -2,3 +2,4 @@ pub mod Records
 pub mod Turns
 pub mod ClassOf
 pub mod PutAlone
+pub mod KeptTurns

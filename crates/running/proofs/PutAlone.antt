@@ -20,8 +20,7 @@ use Rattle.policy.proofs.Granted.{checks-passed}
 use Rattle.request.specs.declared.Parsed.{Parsed}
 use Rattle.request.specs.Parsed.{accessBy, asRequest}
 use Rattle.judging.specs.Judging.{numberFor}
-use Rattle.keeping.specs.Keeping.{loweredTo}
-use Rattle.running.specs.Running.{Fits, Recorded}
+use Rattle.running.specs.Running.{Fits, Recorded, loweredTo}
 
 -- ---- numbers in range
 

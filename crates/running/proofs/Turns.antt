@@ -21,10 +21,10 @@ use Rattle.policy.proofs.LevelBytes.{size-lowered}
 use Rattle.policy.proofs.Runs.{numbers-length, counted-once}
 use Rattle.policy.proofs.Histories.{judge-with}
 use Rattle.request.specs.declared.Parsed.{Parsed}
-use Rattle.request.specs.Parsed.{asRequest, ParsedFrom}
+use Rattle.request.specs.Parsed.{asRequest, nextRecord, ParsedFrom}
 use Rattle.judging.specs.Judging.{Ready, numberFor}
-use Rattle.running.specs.Running.{runNumbers, Turned, Finished}
-use Rattle.running.proofs.Records.{calls-at, none-left, none-due}
+use Rattle.running.specs.Running.{runNumbers, Turned, Finished, Done, Room}
+use Rattle.running.proofs.Records.{calls-at, none-left, none-due, next-at-within, next-at-further, due-at}
 
 -- ---- one put
 
@@ -76,16 +76,6 @@ written-more l answers i n e below =
 
 -- ---- a run so far
 
--- the history, the levels and the answers after i puts, of which some are granted, with the requests from a place on left
-pub record Done (t : Tables) (a₀ : State) (requests answers₀ : List ℕ) (at i granted : ℕ) (a : State) (answers : List ℕ) : Type 0 where
-  pub written : List ℕ
-  pub states : putStates t a₀ (callsOf requests) ≡ putStates t a (callsOf (drop at requests))
-  pub numbers : runNumbers t a₀ requests ≡ written ++ runNumbers t a (drop at requests)
-  pub many : length written ≡ i
-  pub zeros : granted ≡ grantedIn written
-  pub bytes : answers ≡ written ++ drop i answers₀
-  pub ready : Ready t (a .history) (a .levels)
-
 pub done-none : {t : Tables} {a₀ : State} {requests answers₀ : List ℕ} → Ready t (a₀ .history) (a₀ .levels)
     → Done t a₀ requests answers₀ 0 0 0 a₀ answers₀
 unfolding grantedIn
@@ -123,6 +113,11 @@ module _ {t : Tables} {a₀ : State} {requests answers₀ : List ℕ} {at i gran
         ready = ready-put t a (drop at requests) (done .ready);
       })
 
+  -- there is room for the answers to the rest
+  pub done-room : {n : ℕ} → at ≤ length requests → i ≤ at → answersDue requests ≤ n → Room requests n at i granted
+  done-room within further due =
+      record { within = within; further = further; grants = done-granted; enough = omega (arith, done-due, due) }
+
   -- no put more
   pub done-all : length requests ≤ at → Finished t a₀ requests answers₀ granted (i - granted) a answers
   unfolding putStates putNumbers
@@ -137,3 +132,15 @@ module _ {t : Tables} {a₀ : State} {requests answers₀ : List ℕ} {at i gran
         left = sym (done .states ∙ rw none);
         answers = rw (all, due) (done .bytes);
       }
+
+-- one put more leaves room for the rest
+pub room-more : {requests : List ℕ} {n at i granted next g : ℕ} → Room requests n at i granted → at < length requests
+    → next ≡ nextRecord (drop at requests) → g ≤ 1 → Room requests n (at + next) (i + 1) (granted + g)
+room-more {requests} {n} {at} {i} {granted} {next} {g} room below onward one =
+    rw onward
+    (record {
+      within = next-at-within requests at below;
+      further = omega (arith, room .further, next-at-further requests at below);
+      grants = omega (arith, room .grants, one);
+      enough = omega (arith, room .enough, due-at requests at below);
+    })

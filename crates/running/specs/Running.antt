@@ -1,16 +1,20 @@
 -- What the functions of this crate give: one turn of a run, and a whole run.
-use Prim.Native.Nat.{ℕ, _%_}
+use Prim.Native.Nat.{ℕ, _+_, _%_, _≤_}
 use mathlib.Core.Path.{_≡_}
 use mathlib.Core.List.{List, _++_}
 use mathlib.Core.Option.{some}
 use mathlib.Core.Bool.{true}
-use lib.ListN.{drop}
+use lib.Dec.{eqb}
+use lib.ListN.{length, drop}
 use Rattle.policy.specs.declared.Tables.{Tables}
 use Rattle.policy.specs.Tables.{folderAt}
-use Rattle.policy.specs.Request.{Request, hasPlace, recorded}
-use Rattle.policy.specs.Levels.{lowered}
+use Rattle.policy.specs.Request.{Request, hasPlace, setOf, recorded}
+use Rattle.level.specs.Levels.{meetOf}
+use Rattle.policy.specs.Levels.{levelAt, withLevelAt, lowered}
 use Rattle.policy.specs.Calls.{
   State,
+  state,
+  recordedIf,
   judgeNumber,
   putState,
   putNumbers,
@@ -20,8 +24,14 @@ use Rattle.policy.specs.Calls.{
   grantedIn,
   refusedIn,
 }
+use Rattle.keeping.specs.Keeping.{Keeps, Kept as Keeping}
+use Rattle.judging.specs.Judging.{Ready, numberFor}
 use Rattle.request.specs.declared.Parsed.{Parsed}
 use Rattle.request.specs.Parsed.{asRequest, nextRecord}
+
+-- the entry of person s is met with a level
+unfoldable pub loweredTo : List ℕ → ℕ → ℕ → List ℕ
+loweredTo l s level = withLevelAt l s (meetOf 12 (levelAt l s) level)
 
 -- the numbers of a request are in range
 abbrev pub Fits : Parsed → Type 0
@@ -32,6 +42,12 @@ Fits r = (q : Request) → asRequest r ≡ some q → hasPlace q ≡ true
 pub record Recorded (h l : List ℕ) (r : Parsed) (level : ℕ) (h′ l′ : List ℕ) : Type 0 where
   pub one : (t : Tables) (q : Request) → asRequest r ≡ some q → level ≡ folderAt t (r .target % 128) .level .0
       → (h′ ≡ recorded h q) × (l′ ≡ lowered t l q)
+
+-- the history and the levels after a request that has this number, for all tables that give it the number and its folder this level: it is
+-- recorded if it is granted
+pub record RecordedBy (number : ℕ) (h l : List ℕ) (r : Parsed) (level : ℕ) (h′ l′ : List ℕ) : Type 0 where
+  pub left : (t : Tables) → number ≡ numberFor t (setOf h) (levelAt l) (asRequest r) → level ≡ folderAt t (r .target % 128) .level .0
+      → state h′ l′ ≡ recordedIf t (eqb number 0) (state h l) (asRequest r)
 
 -- one put of a run: its number, how far on the next record stands, and the history and the levels after it
 pub record Turned (t : Tables) (before : State) (bytes : List ℕ) (number next : ℕ) (after : State) : Type 0 where
@@ -50,3 +66,35 @@ pub record Finished (t : Tables) (before : State) (requests room : List ℕ) (ze
     pub refused : others ≡ refusedIn (runNumbers t before requests)
     pub left : after ≡ putStates t before (callsOf requests)
     pub answers : written ≡ runNumbers t before requests ++ drop (answersDue requests) room
+
+-- ---- a run so far
+
+-- the history, the levels and the answers after i puts, of which some are granted, with the requests from a place on left
+pub record Done (t : Tables) (a₀ : State) (requests answers₀ : List ℕ) (at i granted : ℕ) (a : State) (answers : List ℕ) : Type 0 where
+  pub written : List ℕ
+  pub states : putStates t a₀ (callsOf requests) ≡ putStates t a (callsOf (drop at requests))
+  pub numbers : runNumbers t a₀ requests ≡ written ++ runNumbers t a (drop at requests)
+  pub many : length written ≡ i
+  pub zeros : granted ≡ grantedIn written
+  pub bytes : answers ≡ written ++ drop i answers₀
+  pub ready : Ready t (a .history) (a .levels)
+
+-- so far a run has come that there is room for the answers to the rest
+pub record Room (requests : List ℕ) (room at i granted : ℕ) : Type 0 where
+  pub within : at ≤ length requests
+  pub further : i ≤ at
+  pub grants : granted ≤ i
+  pub enough : i + answersDue (drop at requests) ≤ room
+
+-- the same, within bounds
+pub record Begun (t : Tables) (a₀ : State) (requests answers₀ : List ℕ) (at i granted : ℕ) (a : State) (answers : List ℕ) : Type 0 where
+  pub done : Done t a₀ requests answers₀ at i granted a answers
+  pub within : at ≤ length requests
+  pub further : i ≤ at
+  pub same : length answers ≡ length answers₀
+
+-- the same of a run that keeps: the levels so far are those of the sets that it keeps, and no buffer holds them yet
+pub record Kept (t : Tables) (a₀ : State) (requests answers₀ : List ℕ) (at i granted : ℕ) (h answers : List ℕ) (k : Keeping) : Type 0 where
+  pub levels : List ℕ
+  pub begun : Begun t a₀ requests answers₀ at i granted (state h levels) answers
+  pub keeps : Keeps t (setOf h) levels k

@@ -1,13 +1,15 @@
 // A put of one request alone, and a run of few requests, each put alone: nothing is kept from one to the next.
 ghost use mathlib.Core.Path.{_≡_};
-ghost use Prim.Native.Nat.{_≤_};
+ghost use mathlib.Core.List.{List};
+ghost use Prim.Native.Nat.{ℕ};
 ghost use lib.ListN.{length};
 ghost use Rattle.policy.specs.Levels.{levelsBytes};
-ghost use Rattle.policy.specs.Calls.{state, answersDue};
+ghost use Rattle.policy.specs.Calls.{State, state, judgeNumber, putState};
 ghost use Rattle.judging.specs.Judging.{Ready};
-ghost use Rattle.running.specs.Running.{Fits, Recorded, Turned, Finished};
+ghost use Rattle.running.specs.Running.{Fits, Recorded, RecordedBy, Finished, Done, Room};
 use crate::Counts;
-use keeping::recording;
+use crate::Progress;
+use crate::recording;
 use level::Level;
 use policy::Tables;
 use policy::numbers;
@@ -31,49 +33,61 @@ fn record(h: &mut [u8], l: &mut [u8], parsed: Parsed, level: Level)
     }
 }
 
-// What a put gives: its number, and how far on the next record stands.
-pub struct Turn {
-    pub number: u8,
-    pub next: usize,
+// Records a request, whose folder has this level, if its number says that it is granted.
+fn record_if_granted(number: u8, h: &mut [u8], l: &mut [u8], parsed: Parsed, level: Level)
+    requires { ⌜ (length (now l) ≡ levelsBytes) × (number ≡ 0 → Fits parsed) ⌝ }
+    ensures { λ r. ⌜ RecordedBy number (now (h .entry)) (now (l .entry)) parsed (level .0) (now (h .exit)) (now (l .exit)) ⌝ }
+{
+    if number == numbers::GRANTED {
+        record(h, l, parsed, level);
+    }
 }
 
 // Puts the request at the front of the bytes.
-pub fn put_next(t: Tables, h: &mut [u8], l: &mut [u8], bytes: &[u8]) -> Turn
+pub fn put(t: Tables, h: &mut [u8], l: &mut [u8], bytes: &[u8]) -> u8
     requires { ⌜ Ready t (now h) (now l) ⌝ }
     ensures { λ r. ⌜
-        Turned t (state (now (h .entry)) (now (l .entry))) (now (bytes .entry)) (r .number) (r .next)
-        (state (now (h .exit)) (now (l .exit)))
+        (r ≡ judgeNumber t (state (now (h .entry)) (now (l .entry))) (now (bytes .entry)))
+        × (state (now (h .exit)) (now (l .exit)) ≡ putState t (state (now (h .entry)) (now (l .entry))) (now (bytes .entry)))
         ⌝ }
 {
     let parsed = request::parse(bytes);
     let number = judging::judge(t, h, l, parsed);
-    if number == numbers::GRANTED {
-        let folder = t.folders[bits::wide(parsed.target) % 128];
-        record(h, l, parsed, folder.level);
-    }
-    Turn {
-        number,
-        next: parsed.next,
-    }
+    let folder = t.folders[bits::wide(parsed.target) % 128];
+    record_if_granted(number, h, l, parsed, folder.level);
+    number
 }
 
-// Puts the requests one after another, each on the history and the levels that the one before it leaves, and writes their numbers.
-pub fn run(t: Tables, h: &mut [u8], l: &mut [u8], requests: &[u8], answers: &mut [u8]) -> Counts
-    requires { ⌜ Ready t (now h) (now l) × (answersDue (now requests) ≤ length (now answers)) ⌝ }
+// Puts the requests that are left one after another, each on the history and the levels that the one before it leaves, and writes their
+// numbers behind those that are written.
+pub fn run_from(
+    t: Tables,
+    h: &mut [u8],
+    l: &mut [u8],
+    requests: &[u8],
+    answers: &mut [u8],
+    ran: Progress,
+) -> Counts
+    requires { ⌜ Ready t (now h) (now l) × Room (now requests) (length (now answers)) (ran .at) (ran .answered) (ran .granted) ⌝ }
     ensures { λ r. ⌜
-        Finished t (state (now (h .entry)) (now (l .entry))) (now (requests .entry)) (now (answers .entry)) (r .granted) (r .refused)
-        (state (now (h .exit)) (now (l .exit))) (now (answers .exit))
+        ((a : State) (room : List ℕ) → length room ≡ length (now (answers .entry))
+        → Done t a (now (requests .entry)) room (ran .at) (ran .answered) (ran .granted) (state (now (h .entry)) (now (l .entry)))
+        (now (answers .entry))
+        → Finished t a (now (requests .entry)) room (r .granted) (r .refused) (state (now (h .exit)) (now (l .exit))) (now (answers .exit)))
         ⌝ }
 {
-    let mut at: usize = 0;
-    let mut i: usize = 0;
-    let mut granted: usize = 0;
+    let mut at = ran.at;
+    let mut i = ran.answered;
+    let mut granted = ran.granted;
     while at < requests.len() {
-        let turn = put_next(t, h, l, &requests[at..]);
-        answers[i] = turn.number;
+        let parsed = request::parse(&requests[at..]);
+        let number = judging::judge(t, h, l, parsed);
+        let folder = t.folders[bits::wide(parsed.target) % 128];
+        record_if_granted(number, h, l, parsed, folder.level);
+        answers[i] = number;
         i += 1;
-        granted += crate::granted_by(turn.number);
-        at += turn.next;
+        granted += crate::granted_by(number);
+        at += parsed.next;
     }
     let refused = i - granted;
     Counts { granted, refused }

@@ -1,71 +1,128 @@
-// A run that keeps what it has gathered: what persons did and what was done on folders is gathered once, and each granted request is added
-// to it. The loop has the tables by value, reads the entries of a request's own person, folder and firm, and hands these on.
+// A run that keeps what it has gathered: what persons did, what was done on folders and all levels are gathered once, and each granted
+// request is added to them. The loop has the tables by value, reads the entries of a request's own folder and firm, and hands these on; it
+// takes whole records of known kinds, and what is left, one record at most, is put alone.
 ghost use Prim.Native.Nat.{_≤_};
 ghost use lib.ListN.{length};
+ghost use mathlib.Core.Path.{_≡_};
+ghost use mathlib.Core.List.{List};
+ghost use Rattle.policy.specs.History.{historyBytes};
 ghost use Rattle.policy.specs.Request.{setOf};
 ghost use Rattle.policy.specs.Calls.{state, answersDue};
-ghost use Rattle.rules.specs.Sets.{HasClasses, HasRoles};
+ghost use Rattle.rules.specs.Sets.{HasClasses};
+ghost use Rattle.rules.specs.Kept.{HasHolders};
 ghost use Rattle.judging.specs.Judging.{Ready};
-ghost use Rattle.keeping.specs.Keeping.{Keeps};
-ghost use Rattle.running.specs.Running.{Finished};
-use crate::Counts;
-use judging::asking;
-use keeping::Kept;
-use keeping::gathering;
+ghost use Rattle.keeping.specs.Keeping.{kept, Keeps};
+ghost use Rattle.running.specs.Running.{Begun, Kept};
+use crate::Progress;
+use keeping::checks;
+use keeping::kinds;
 use policy::Tables;
 
-// Puts the requests one after another, each on the history, the levels and the sets that the one before it leaves, and writes their
-// numbers.
+// Puts the requests one after another, each on the history and the sets that the one before it leaves, and writes their numbers, up to a
+// record that is unknown or cut or the last of three bytes.
 fn run_by(
     t: Tables,
-    roles: &[u64; 32],
+    holders: &[u64; 64],
     classes: &[u64; 32],
-    kept: &mut Kept,
+    firms: &mut [u64; 64],
+    holding: &mut [u64; 64],
+    done: &mut [u64; 128],
+    next: &mut [u64; 128],
+    sets: &mut [u64; 192],
     h: &mut [u8],
-    l: &mut [u8],
+    l: &[u8],
     requests: &[u8],
     answers: &mut [u8],
-) -> Counts
+) -> Progress
     requires { ⌜
-        Ready t (now h) (now l) × (answersDue (now requests) ≤ length (now answers)) × HasRoles t (now roles) × HasClasses t (now classes)
-        × Keeps t (setOf (now h)) (now kept)
+        Ready t (now h) (now l) × (answersDue (now requests) ≤ length (now answers)) × HasHolders t (now holders)
+        × HasClasses t (now classes)
+        × Keeps t (setOf (now h)) (now l) (kept (now firms) (now holding) (now done) (now next) (now sets))
         ⌝ }
     ensures { λ r. ⌜
-        Finished t (state (now (h .entry)) (now (l .entry))) (now (requests .entry)) (now (answers .entry)) (r .granted) (r .refused)
-        (state (now (h .exit)) (now (l .exit))) (now (answers .exit))
+        Kept t (state (now (h .entry)) (now (l .entry))) (now (requests .entry)) (now (answers .entry)) (r .at) (r .answered) (r .granted)
+        (now (h .exit)) (now (answers .exit))
+        (kept (now (firms .exit)) (now (holding .exit)) (now (done .exit)) (now (next .exit)) (now (sets .exit)))
         ⌝ }
 {
+    let rows = kinds::rows();
+    let numbers = checks::check_numbers();
+    let grants = checks::grants();
     let mut at: usize = 0;
-    let mut i: usize = 0;
+    let mut answered: usize = 0;
     let mut granted: usize = 0;
-    while at < requests.len() {
+    loop {
+        if requests.len() - at < 4 {
+            return Progress {
+                at,
+                answered,
+                granted,
+            };
+        }
         let parsed = request::parse(&requests[at..]);
-        let s = bits::wide(parsed.person);
-        let o = bits::wide(parsed.target);
-        let folder = t.folders[o % 128];
+        if parsed.kind >> 2 != 4 {
+            return Progress {
+                at,
+                answered,
+                granted,
+            };
+        }
+        at += parsed.next;
+        let folder = t.folders[bits::wide(parsed.target) % 128];
         let firm = t.firms[bits::wide(folder.firm) % 64];
         let class = classes[bits::wide(firm.class) % 32];
-        let asked = asking::ask(s, o, t.persons[s % 64], t.persons[o % 64], folder);
-        let number = keeping::put(t.mask, roles, &t.steps, asked, class, kept, h, l, parsed);
-        answers[i] = number;
-        i += 1;
+        let number = keeping::put(
+            t.mask,
+            &t.steps,
+            &rows,
+            &numbers,
+            &grants,
+            holders,
+            class,
+            folder,
+            firms,
+            holding,
+            done,
+            next,
+            sets,
+            h,
+            parsed,
+        );
+        answers[answered] = number;
+        answered += 1;
         granted += crate::granted_by(number);
-        at += parsed.next;
     }
-    let refused = i - granted;
-    Counts { granted, refused }
 }
 
-// Runs the requests.
-pub fn run(t: Tables, h: &mut [u8], l: &mut [u8], requests: &[u8], answers: &mut [u8]) -> Counts
+// Runs the requests as far as it can.
+pub fn run(t: Tables, h: &mut [u8], l: &mut [u8], requests: &[u8], answers: &mut [u8]) -> Progress
     requires { ⌜ Ready t (now h) (now l) × (answersDue (now requests) ≤ length (now answers)) ⌝ }
     ensures { λ r. ⌜
-        Finished t (state (now (h .entry)) (now (l .entry))) (now (requests .entry)) (now (answers .entry)) (r .granted) (r .refused)
+        Begun t (state (now (h .entry)) (now (l .entry))) (now (requests .entry)) (now (answers .entry)) (r .at) (r .answered) (r .granted)
         (state (now (h .exit)) (now (l .exit))) (now (answers .exit))
         ⌝ }
 {
-    let roles = rules::role_rights(t);
+    let holders = gathering::holders(t);
     let classes = rules::classes(t);
-    let mut kept = gathering::gather(t, h);
-    run_by(t, &roles, &classes, &mut kept, h, l, requests, answers)
+    let mut firms = gathering::firms(t, h);
+    let mut holding = gathering::holding(t, h);
+    let mut done = gathering::done(t, h);
+    let mut next = gathering::next(t, &done);
+    let mut sets = levels::sets::gather(t, l);
+    let ran = run_by(
+        t,
+        &holders,
+        &classes,
+        &mut firms,
+        &mut holding,
+        &mut done,
+        &mut next,
+        &mut sets,
+        h,
+        l,
+        requests,
+        answers,
+    );
+    levels::sets::store(&sets, l);
+    ran
 }

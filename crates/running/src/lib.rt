@@ -7,12 +7,13 @@ ghost use lib.Dec.{eqb};
 ghost use lib.ListN.{length};
 ghost use Rattle.policy.specs.Calls.{state, answersDue};
 ghost use Rattle.judging.specs.Judging.{Ready};
-ghost use Rattle.running.specs.Running.{Finished};
+ghost use Rattle.running.specs.Running.{Finished, Begun};
 use policy::Tables;
 use policy::numbers;
 
 pub mod alone;
 pub mod kept;
+mod recording;
 
 // The answers that a run of the requests has: one for each record, and one for the unknown or cut record that ends it.
 pub fn answers_due(requests: &[u8]) -> usize
@@ -37,13 +38,45 @@ fn granted_by(answer: u8) -> usize
     0
 }
 
+// How far a run has come: where the next record stands, how many answers are written, and how many of them are grants.
+pub struct Progress {
+    pub at: usize,
+    pub answered: usize,
+    pub granted: usize,
+}
+
 // The requests that a run granted, and those that it refused.
 pub struct Counts {
     pub granted: usize,
     pub refused: usize,
 }
 
-// Runs the requests: few of them each alone, and otherwise by what is gathered once.
+// Begins a run of the requests: few of them are all left, and of many those that a run by what is gathered once comes to are put.
+fn begin(
+    t: Tables,
+    h: &mut [u8],
+    l: &mut [u8],
+    requests: &[u8],
+    answers: &mut [u8],
+    few: bool,
+) -> Progress
+    requires { ⌜ Ready t (now h) (now l) × (answersDue (now requests) ≤ length (now answers)) ⌝ }
+    ensures { λ r. ⌜
+        Begun t (state (now (h .entry)) (now (l .entry))) (now (requests .entry)) (now (answers .entry)) (r .at) (r .answered) (r .granted)
+        (state (now (h .exit)) (now (l .exit))) (now (answers .exit))
+        ⌝ }
+{
+    if few {
+        return Progress {
+            at: 0,
+            answered: 0,
+            granted: 0,
+        };
+    }
+    kept::run(t, h, l, requests, answers)
+}
+
+// Runs the requests: few of them each alone, and otherwise by what is gathered once, up to the last record.
 pub fn run(
     t: Tables,
     h: &mut [u8],
@@ -58,8 +91,6 @@ pub fn run(
         (state (now (h .exit)) (now (l .exit))) (now (answers .exit))
         ⌝ }
 {
-    if few {
-        return alone::run(t, h, l, requests, answers);
-    }
-    kept::run(t, h, l, requests, answers)
+    let ran = begin(t, h, l, requests, answers, few);
+    alone::run_from(t, h, l, requests, answers, ran)
 }

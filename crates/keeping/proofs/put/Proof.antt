@@ -1,202 +1,245 @@
--- `put` answers each kind of request: 13 where its parties are not declared, and else what the put of its kind does; 12 where there is
--- none.
-use native.Mathlib.Omega.{arith}
-use borrow.Author.Tests.{not-true, not-false}
-use Rattle.request.proofs.KindLaws.{kind-access, kind-start, kind-step, kind-none}
-use Rattle.judging.proofs.AskingLaws.{not-both, two-known, not-two}
-use Rattle.judging.proofs.JudgingLaws.{undeclared-access, undeclared-start, undeclared-step, high-step}
-use Rattle.keeping.proofs.Puts.{as-turn, undeclared-turn, cut-turn, parties-known}
+-- `put` judges the request by what is kept and changes what is kept by what was found, as the definitions do (Puts).
 use borrow.Author.Needs.{needs}
+use Prim.Native.Nat.{ℕ, _<_}
+use native.Mathlib.Omega.{arith}
+use mathlib.Core.Path.{_≡_, refl, sym, ap, _∙_}
+use mathlib.Core.Bool.{Bool, cond, not, _&&_}
+use lib.Dec.{eqb}
+use lib.ListN.{getD}
+use Rattle.policy.specs.Tables.{personAt}
+use Rattle.policy.specs.Levels.{levelAt}
+use Rattle.request.specs.declared.Parsed.{Parsed}
+use Rattle.keeping.specs.declared.kinds.Placed.{Placed}
+use Rattle.keeping.specs.Kinds.{placedBy, rightBy, askedBy, isAccess, PlacedAs}
+use Rattle.keeping.specs.Failing.{numberAt, grantAt, firstFailing}
+use Rattle.keeping.specs.Keeping.{Within, kept}
+use Rattle.keeping.proofs.KindLaws.{placed-as, row-of, right-small}
+use Rattle.keeping.proofs.FailingLaws.{granted-at}
+use Rattle.keeping.proofs.Known.{levelIn, markIn, set-at, level-small}
+use Rattle.keeping.proofs.Puts.{found-at}
+use Rattle.levels.proofs.SetLaws.{level-lt}
 use Rattle.keeping.proofs.put.Statement.{statement}
 use Rattle.keeping.proofs.put.Tie as tie
 use Rattle.keeping.proofs.put.Reads as reads
 use Rattle.keeping.proofs.put.Lts as lts
 use Rattle.bits.proofs.wide.Reads as wide-reads
-use Rattle.keeping.proofs.put_access.Reads as put-access-reads
-use Rattle.keeping.proofs.put_start.Reads as put-start-reads
-use Rattle.keeping.proofs.put_step.Reads as put-step-reads
+use Rattle.keeping.proofs.change.Reads as change-reads
+use Rattle.keeping.proofs.checks.counts.Reads as counts-reads
+use Rattle.keeping.proofs.judge.Reads as judge-reads
+use Rattle.keeping.proofs.kinds.place.Reads as place-reads
+use Rattle.keeping.proofs.kinds.right.Reads as right-reads
+use Rattle.keeping.proofs.kinds.row.Reads as row-reads
 
+-- the numbers of a request that was placed are within bounds
+placed-at : (r : Parsed) {x : Placed} → 15 < r .kind → r .kind < 20 → r .step < 256 → x ≡ placedBy (r .kind) (r .person) (r .target) (r
+    .step)
+    → PlacedAs (askedBy (r .kind) (r .person) (r .target) (r .step)) x
+placed-at r low high small e = rw e (placed-as (r .kind) (r .person) (r .target) (r .step) low high small)
+
+right-in : (r : Parsed) (f : ℕ) {x : Placed} {n : ℕ} → 15 < r .kind → r .kind < 20 → x ≡ placedBy (r .kind) (r .person) (r .target) (r
+    .step)
+    → n ≡ rightBy (r .kind) f (x .step) → n < 64
+right-in r f low high e is = rw (is, e) (right-small (r .kind) (r .person) (r .target) (r .step) f low high)
+
+-- src/lib.rt:123:9
+place-requires : tie.Need-place-requires
+place-requires c κs = search needs
+
+-- src/lib.rt:128:48
+row-requires : tie.Need-row-requires
+row-requires c κs = search needs
+
+-- src/lib.rt:128:9
+counts-requires : tie.Need-counts-requires
+counts-requires c κs = search needs
+
+-- src/lib.rt:129:9
 wide-requires : tie.Need-wide-requires
 wide-requires c κs = search needs
 
-wide-requires-2 : tie.Need-wide-requires-2
-wide-requires-2 c κs = search needs
+-- src/lib.rt:130:24
+right-requires : tie.Need-right-requires
+right-requires c κs =
+    let start = c .before .before .before .before .before in
+    let at = placed-at (c .before .before .before .before .before .args .r) (c .before .before .before .before .before .pre .3) (c
+    .before .before .before .before .before .pre .4) (c .before .before .before .place .ensures .1) (c .before .before .before .place
+    .ensures .0) in (start .pre .0, start .pre .3, start .pre .4, at .stepBelow)
 
-wide-requires-3 : tie.Need-wide-requires-3
-wide-requires-3 c κs = search needs
+-- src/lib.rt:130:16
+mul-held : tie.Need-mul-held
+mul-held c = let l = right-in (c .before .before .before .before .before .before .args .r) (c .before .before .before .before .before
+    .before .args .folder .kind) (c .before .before .before .before .before .before .pre .3) (c .before .before .before .before .before
+    .before .pre .4) (c .before .before .before .before .place .ensures .0) (c .right .ensures) in omega (arith, l)
 
-returns : tie.Need-returns
-returns c =
-    let at-wide2 = c .before .before .before .before in
-    let at-wide = at-wide2 .before in
-    let start = at-wide .before .before .before in
-    λ t serves enabling knows firms.
-    let r = start .args .parsed in
-    let person = at-wide .wide .ensures .0 in
-    let target = at-wide2 .wide2 .ensures .0 in
-    undeclared-turn (serves .keeps) _ (kind-start r person target (omega arith))
-    (undeclared-start t _ _ (not-two knows person target (not-true (start .args .asked .persons) (c .if1 .taken))))
+-- src/lib.rt:130:16
+element-copy-out-held : tie.Need-element-copy-out-held
+element-copy-out-held c = right-in (c .before .before .before .before .before .before .args .r) (c .before .before .before .before
+    .before .before .args .folder .kind) (c .before .before .before .before .before .before .pre .3) (c .before .before .before .before
+    .before .before .pre .4) (c .before .before .before .before .place .ensures .0) (c .right .ensures)
 
-put-start-requires : tie.Need-put-start-requires
-put-start-requires c κs =
-    let at-if1 = c .before .before .before in
-    let at-wide2 = at-if1 .before .before .before .before in
-    let at-wide = at-wide2 .before in
-    let start = at-wide .before .before .before in
-    let below = start .pre .1 .two (not-false (start .args .asked .persons) (at-if1 .if1 .left)) in
-    (start .pre .0, omega (arith, at-wide .wide .ensures .0, below .0), omega (arith, at-wide2 .wide2 .ensures .0, below .1))
+-- src/lib.rt:131:18
+mul-needed : tie.Need-mul-needed
+mul-needed c = let l = placed-at (c .before .before .before .before .before .before .before .args .r) (c .before .before .before .before
+    .before .before .before .pre .3) (c .before .before .before .before .before .before .before .pre .4) (c .before .before .before
+    .before .before .place .ensures .1) (c .before .before .before .before .before .place .ensures .0) .setBelow in omega (arith, l)
 
-returns-2 : tie.Need-returns-2
-returns-2 c =
-    let at-wide3 = c .before .before .before in
-    let at-wide2 = at-wide3 .before in
-    let at-wide = at-wide2 .before in
-    let start = at-wide .before .before .before in
-    λ t serves enabling knows firms.
-    let r = start .args .parsed in
-    let person = at-wide .wide .ensures .0 in
-    let target = at-wide2 .wide2 .ensures .0 in
-    undeclared-turn (serves .keeps) _ (kind-step r person target (at-wide3 .wide3 .ensures .0) (omega arith))
-    (undeclared-step t _ _ _ (not-both knows person target (not-true (start .args .asked .known) (c .if2 .taken))))
+-- src/lib.rt:131:18
+element-copy-out-needed : tie.Need-element-copy-out-needed
+element-copy-out-needed c = placed-at (c .before .before .before .before .before .before .before .args .r) (c .before .before .before
+    .before .before .before .before .pre .3) (c .before .before .before .before .before .before .before .pre .4) (c .before .before
+    .before .before .before .place .ensures .1) (c .before .before .before .before .before .place .ensures .0) .setBelow
 
-returns-3 : tie.Need-returns-3
-returns-3 c =
-    λ t serves enabling knows firms.
-    let r = c .before .before .before .before .before .before .before .before .before .args .parsed in
-    let person = c .before .before .before .before .before .before .wide .ensures .0 in
-    let target = c .before .before .before .before .before .wide2 .ensures .0 in
-    undeclared-turn (serves .keeps) _ (kind-step r person target (c .before .before .before .before .wide3 .ensures .0) (omega arith))
-    (high-step t _ _ _ (c .if3 .taken))
+-- src/lib.rt:132:15
+mul-own : tie.Need-mul-own
+mul-own c = let l = placed-at (c .before .before .before .before .before .before .before .before .args .r) (c .before .before .before
+    .before .before .before .before .before .pre .3) (c .before .before .before .before .before .before .before .before .pre .4) (c
+    .before .before .before .before .before .before .place .ensures .1) (c .before .before .before .before .before .before .place
+    .ensures .0) .personBelow in omega (arith, l)
 
-put-step-requires : tie.Need-put-step-requires
-put-step-requires c κs =
-    let at-if2 = c .before .before .before .before in
-    let at-wide2 = at-if2 .before .before .before .before in
-    let at-wide = at-wide2 .before in
-    let start = at-wide .before .before .before in
-    let below = start .pre .1 .both (not-false (start .args .asked .known) (at-if2 .if2 .left)) in
-    (start .pre .0, omega (arith, at-wide .wide .ensures .0, below .0), omega arith, omega (arith, at-wide2 .wide2 .ensures .0, below .1))
+-- src/lib.rt:132:15
+element-copy-out-own : tie.Need-element-copy-out-own
+element-copy-out-own c = let l = placed-at (c .before .before .before .before .before .before .before .before .args .r) (c .before
+    .before .before .before .before .before .before .before .pre .3) (c .before .before .before .before .before .before .before .before
+    .pre .4) (c .before .before .before .before .before .before .place .ensures .1) (c .before .before .before .before .before .before
+    .place .ensures .0) .personBelow in omega (arith, l)
 
-returns-4 : tie.Need-returns-4
-returns-4 c =
-    let at-wide2 = c .before .before .before .before .before .before in
-    let at-wide = at-wide2 .before in
-    let start = at-wide .before .before .before in
-    λ t serves enabling knows firms.
-    let r = start .args .parsed in
-    let person = at-wide .wide .ensures .0 in
-    let target = at-wide2 .wide2 .ensures .0 in
-    undeclared-turn (serves .keeps) _ (kind-access r person target (omega arith) (omega arith))
-    (undeclared-access t _ _ _ (not-both knows person target (not-true (start .args .asked .known) (c .if6 .taken))))
+-- src/lib.rt:137:18
+mul-t31 : tie.Need-mul-t31
+mul-t31 c = let l = placed-at (c .before .before .before .before .before .before .before .before .before .args .r) (c .before .before
+    .before .before .before .before .before .before .before .pre .3) (c .before .before .before .before .before .before .before .before
+    .before .pre .4) (c .before .before .before .before .before .before .before .place .ensures .1) (c .before .before .before .before
+    .before .before .before .place .ensures .0) .personBelow in omega (arith, l)
 
-put-access-requires : tie.Need-put-access-requires
-put-access-requires c κs =
-    let at-if6 = c .before .before .before in
-    let at-wide2 = at-if6 .before .before .before .before .before .before in
-    let at-wide = at-wide2 .before in
-    let start = at-wide .before .before .before in
-    let below = start .pre .1 .both (not-false (start .args .asked .known) (at-if6 .if6 .left)) in
-    (start .pre .0, omega (arith, at-wide .wide .ensures .0, below .0), omega (arith, at-wide2 .wide2 .ensures .0, below .1))
+-- src/lib.rt:137:18
+element-copy-out-t30 : tie.Need-element-copy-out-t30
+element-copy-out-t30 c = placed-at (c .before .before .before .before .before .before .before .before .before .args .r) (c .before
+    .before .before .before .before .before .before .before .before .pre .3) (c .before .before .before .before .before .before .before
+    .before .before .pre .4) (c .before .before .before .before .before .before .before .place .ensures .1) (c .before .before .before
+    .before .before .before .before .place .ensures .0) .personBelow
 
+-- src/lib.rt:138:18
+mul-t32 : tie.Need-mul-t32
+mul-t32 c = let l = placed-at (c .before .before .before .before .before .before .before .before .before .before .args .r) (c .before
+    .before .before .before .before .before .before .before .before .before .pre .3) (c .before .before .before .before .before .before
+    .before .before .before .before .pre .4) (c .before .before .before .before .before .before .before .before .place .ensures .1) (c
+    .before .before .before .before .before .before .before .before .place .ensures .0) .personBelow in omega (arith, l)
+
+-- src/lib.rt:138:18
+element-copy-out-t43 : tie.Need-element-copy-out-t43
+element-copy-out-t43 c = placed-at (c .before .before .before .before .before .before .before .before .before .before .args .r) (c
+    .before .before .before .before .before .before .before .before .before .before .pre .3) (c .before .before .before .before .before
+    .before .before .before .before .before .pre .4) (c .before .before .before .before .before .before .before .before .place .ensures
+    .1) (c .before .before .before .before .before .before .before .before .place .ensures .0) .personBelow
+
+-- src/lib.rt:140:15
+mul-all : tie.Need-mul-all
+mul-all c = let l = placed-at (c .before .before .before .before .before .before .before .before .before .before .before .args .r) (c
+    .before .before .before .before .before .before .before .before .before .before .before .pre .3) (c .before .before .before .before
+    .before .before .before .before .before .before .before .pre .4) (c .before .before .before .before .before .before .before .before
+    .before .place .ensures .1) (c .before .before .before .before .before .before .before .before .before .place .ensures .0)
+    .placeBelow in omega (arith, l)
+
+-- src/lib.rt:140:15
+element-copy-out-all : tie.Need-element-copy-out-all
+element-copy-out-all c = placed-at (c .before .before .before .before .before .before .before .before .before .before .before .args .r)
+    (c .before .before .before .before .before .before .before .before .before .before .before .pre .3) (c .before .before .before
+    .before .before .before .before .before .before .before .before .pre .4) (c .before .before .before .before .before .before .before
+    .before .before .place .ensures .1) (c .before .before .before .before .before .before .before .before .before .place .ensures .0)
+    .placeBelow
+
+-- src/lib.rt:142:9
+judge-requires : tie.Need-judge-requires
+judge-requires c κs = search needs
+
+-- src/lib.rt:143:15
+mul-all-2 : tie.Need-mul-all-2
+mul-all-2 c = search needs
+
+-- src/lib.rt:143:15
+element-copy-out-all-2 : tie.Need-element-copy-out-all-2
+element-copy-out-all-2 c = search needs
+
+-- src/lib.rt:144:5
+change-requires : tie.Need-change-requires
+change-requires c κs =
+    let start = c .before .before .before .before .before .before .before .before .before .before .before .before .before .before .before
+    .before .before .before .before .before in
+    let at = placed-at (c .before .before .before .before .before .before .before .before .before .before .before .before .before .before
+    .before .before .before .before .before .before .args .r) (c .before .before .before .before .before .before .before .before .before
+    .before .before .before .before .before .before .before .before .before .before .before .pre .3) (c .before .before .before .before
+    .before .before .before .before .before .before .before .before .before .before .before .before .before .before .before .before .pre
+    .4) (c .before .before .before .before .before .before .before .before .before .before .before .before .before .before .before
+    .before .before .before .place .ensures .1) (c .before .before .before .before .before .before .before .before .before .before
+    .before .before .before .before .before .before .before .before .place .ensures .0) in (
+      start .pre .0,
+      record { person = at .personBelow; place = at .placeBelow; index = at .indexBelow },
+      start .pre .5,
+      start .pre .6,
+    )
+
+-- src/lib.rt:145:5
+element-copy-out-result : tie.Need-element-copy-out-result
+element-copy-out-result c = search needs
+
+-- src/lib.rt:95:1
 same-length : tie.Need-same-length
 same-length c = search needs
 
-same-length-2 : tie.Need-same-length-2
-same-length-2 c = search needs
-
-returns-5 : tie.Need-returns-5
-returns-5 c =
-    let at-if1 = c .before .before .before .before .before .before in
-    let at-wide2 = at-if1 .before .before .before .before in
-    let at-wide = at-wide2 .before in
-    let start = at-wide .before .before .before in
-    λ t serves enabling knows firms.
-    let r = start .args .parsed in
-    let person = at-wide .wide .ensures .0 in
-    let target = at-wide2 .wide2 .ensures .0 in
-    let (one, other) = two-known knows person target (not-false (start .args .asked .persons) (at-if1 .if1 .left)) in
-    as-turn _ (kind-start r person target (omega arith)) (c .before .before .put-start .ensures t serves one other)
-
-same-length-3 : tie.Need-same-length-3
-same-length-3 c = search needs
-
-same-length-4 : tie.Need-same-length-4
-same-length-4 c = search needs
-
-returns-6 : tie.Need-returns-6
-returns-6 c =
-    let at-put-step = c .before .before .before .before in
-    let at-if2 = at-put-step .before .before .before .before .before in
-    let at-wide3 = at-if2 .before .before .before in
-    let at-wide2 = at-wide3 .before in
-    let at-wide = at-wide2 .before in
-    let start = at-wide .before .before .before in
-    λ t serves enabling knows firms.
-    let r = start .args .parsed in
-    let person = at-wide .wide .ensures .0 in
-    let target = at-wide2 .wide2 .ensures .0 in
-    let parties = parties-known knows person target firms (not-false (start .args .asked .known) (at-if2 .if2 .left)) in
-    as-turn _ (kind-step r person target (at-wide3 .wide3 .ensures .0) (omega arith))
-    (at-put-step .put-step .ensures t serves enabling parties)
-
-returns-7 : tie.Need-returns-7
-returns-7 c =
-    λ t serves enabling knows firms.
-    let r = c .before .before .before .before .before .before .before .args .parsed in
-    let person = c .before .before .before .before .wide .ensures .0 in
-    let target = c .before .before .before .wide2 .ensures .0 in
-    cut-turn (serves .keeps) (kind-none r (omega arith) (omega arith) (omega arith) (omega arith))
-
-same-length-5 : tie.Need-same-length-5
-same-length-5 c = search needs
-
-same-length-6 : tie.Need-same-length-6
-same-length-6 c = search needs
-
-returns-8 : tie.Need-returns-8
-returns-8 c =
-    let at-put-access = c .before .before .before .before in
-    let at-if6 = at-put-access .before .before .before .before in
-    let at-wide2 = at-if6 .before .before .before .before .before .before in
-    let at-wide = at-wide2 .before in
-    let start = at-wide .before .before .before in
-    λ t serves enabling knows firms.
-    let r = start .args .parsed in
-    let person = at-wide .wide .ensures .0 in
-    let target = at-wide2 .wide2 .ensures .0 in
-    let parties = parties-known knows person target firms (not-false (start .args .asked .known) (at-if6 .if6 .left)) in
-    as-turn _ (kind-access r person target (omega arith) (omega arith)) (at-put-access .put-access .ensures t serves parties)
-
-returns-9 : tie.Need-returns-9
-returns-9 c =
-    λ t serves enabling knows firms.
-    let r = c .before .before .before .before .before .before .before .before .args .parsed in
-    let person = c .before .before .before .before .before .wide .ensures .0 in
-    let target = c .before .before .before .before .wide2 .ensures .0 in
-    cut-turn (serves .keeps) (kind-none r (omega arith) (omega arith) (omega arith) (omega arith))
+-- src/lib.rt:95:1
+returns : tie.Need-returns
+returns c =
+    λ t l serves keeps.
+    let start = c .before .before .before .before .before .before .before .before .before .before .before .before .before .before .before
+    .before .before .before .before .before .before .before .before .before in
+    let args = start .args in
+    let r = args .r in
+    let placed = c .before .before .before .before .before .before .before .before .before .before .before .before .before .before
+    .before .before .before .before .before .before .before .before .place in
+    let judged = c .before .before .before .before .before .before .before .before .before .before .before .judge in
+    let row = row-of (r .kind) (r .person) (r .target) (r .step) (start .pre .3) (start .pre .4) in
+    found-at t (args .h .now) l (start .pre .5) (args .mask) (r .kind) (r .person) (r .target) (r .step) (start .pre .3) (start .pre .4)
+    (placed .ensures .1)
+    (kept (args .firms .now) (args .holding .now) (args .done .now) (args .next .now) (args .sets .now)) (args .holders .now)
+    (args .steps .now)
+    (args .folder) (args .class) serves keeps (placed .result) (c .before .before .before .before .before .before .before .before .before
+    .before .before .before .before .before .before .before .before .before .before .wide .result) (c .before .before .before .before
+    .before .before .before .before .before .before .before .before .before .before .before .before .before .before .right .result)
+    (placed .ensures .0)
+    (c .before .before .before .before .before .before .before .before .before .before .before .before .before .before .before .before
+    .before .before .before .wide .ensures .0) (c .before .before .before .before .before .before .before .before .before .before .before
+    .before .before .before .before .before .before .before .right .ensures)
+    (c .before .before .before .before .before .before .before .before .before .before .before .before .before .before .before .before
+    .before .before .before .before .counts .ensures (isAccess (askedBy (r .kind) (r .person) (r .target) (r .step))) (c .before .before
+    .before .before .before .before .before .before .before .before .before .before .before .before .before .before .before .before
+    .before .before .before .row .ensures ∙ row .access))
+    (judged .ensures .1) (c .before .before .before .change .ensures) (judged .ensures .0) (rw (start .pre .2) refl) (rw (start .pre .1)
+    refl)
 
 pub put-spec : {M : Type 1} → statement M
 put-spec =
     tie.close
     (tie.spec
+    place-requires
+    row-requires
+    counts-requires
     wide-requires
-    wide-requires-2
-    wide-requires-3
-    returns
-    put-start-requires
-    returns-2
-    returns-3
-    put-step-requires
-    returns-4
-    put-access-requires
+    right-requires
+    mul-held
+    element-copy-out-held
+    mul-needed
+    element-copy-out-needed
+    mul-own
+    element-copy-out-own
+    mul-t31
+    element-copy-out-t30
+    mul-t32
+    element-copy-out-t43
+    mul-all
+    element-copy-out-all
+    judge-requires
+    mul-all-2
+    element-copy-out-all-2
+    change-requires
+    element-copy-out-result
     same-length
-    same-length-2
-    returns-5
-    same-length-3
-    same-length-4
-    returns-6
-    returns-7
-    same-length-5
-    same-length-6
-    returns-8
-    returns-9)
+    returns)

@@ -4,10 +4,6 @@ use Rattle.loaded.proofs.CallLaws.{passed-ready, judge-refused, put-ref
 use borrow.Author.Needs.{needs}
 use Rattle.loaded.proofs.put.Statement.{statement}
 use Rattle.loaded.proofs.put.Tie as tie
-use Rattle.loaded.proofs.put.Reads as reads
-use Rattle.loaded.proofs.put.Lts as lts
-use Rattle.loaded.proofs.lengths.Reads as lengths-reads
-use Rattle.running.proofs.alone.put_next.Reads as put-next-reads
 
 lengths-requires : tie.Need-lengths-requires
 lengths-requires c κs = search needs
@@ -23,8 +19,8 @@ returns c =
     let checks = c .before .lengths .ensures _ (c .before .before .before .before .before .before .before .pre) in
     (judge-refused _ _ _ _ checks (c .if1 .taken), put-refused _ _ _ _ checks (c .if1 .taken))
 
-put-next-requires : tie.Need-put-next-requires
-put-next-requires c κs =
+put-requires : tie.Need-put-requires
+put-requires c κs =
     let at-lengths = c .before .before .before in
     let start = at-lengths .before .before .before .before .before .before in
     let checks = at-lengths .lengths .ensures _ (start .pre) in
@@ -37,7 +33,7 @@ same-length-4 : tie.Need-same-length-4
 same-length-4 c = search needs
 
 returns-2 : tie.Need-returns-2
-returns-2 c = let turned = c .before .before .before .before .put-next .ensures in (turned .judgedAs, turned .left)
+returns-2 c = search needs
 
 pub put-spec : {M : Type 1} → statement M
 put-spec =
@@ -47,7 +43,7 @@ put-spec =
     same-length
     same-length-2
     returns
-    put-next-requires
+    put-requires
     same-length-3
     same-length-4
     returns-2)

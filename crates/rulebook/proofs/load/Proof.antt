@@ -1,84 +1,38 @@
--- `load` keeps, from record to record, that the bytes left and the tables so far come to what the whole book comes to: `Left`. Where the
--- arms of the first match meet, the number is that of the record by the definition; each arm of the second stores what the record of its
--- kind declares. Its last arm is never reached: a record that passes has a known kind.
+-- `load` keeps, from record to record, that the bytes left and the tables so far come to what the whole book comes to: `Left`. Each arm of
+-- the second match stores what the record of its kind declares. Its last arm is never reached: a record that passes has a known kind.
 use Prim.Native.Nat.{ℕ, suc, _-_, _<_}
-use mathlib.Core.List.{List}
-use mathlib.Core.Logic.{⊎-elim}
 use mathlib.Core.Bool.{true}
 use mathlib.Core.Path.{_≡_, refl, _∙_}
-use denote.Ref.{now}
 use lib.ListN.{length}
 use borrow.Author.Needs.{needs}
 use Rattle.bits.specs.Bits.{withBit}
-use Rattle.policy.specs.declared.Tables.{Tables}
 use Rattle.policy.specs.Rulebook.{Record, lastKind, inRange, declare}
-use Rattle.rulebook.specs.declared.records.Reading.{Reading}
-use Rattle.rulebook.specs.Readings.{recordRead, ReadAt, numberOf}
+use Rattle.rulebook.specs.Readings.{recordRead, numberOf}
 use Rattle.rulebook.proofs.TurnLaws.{within}
 use Rattle.rulebook.proofs.KindLaws.{past-last, too-high, is-rules, is-firm, is-person, is-folder, is-role, is-pair, is-public}
 use Rattle.rulebook.proofs.NumberLaws as laws
-use Rattle.rulebook.proofs.LoadLaws.{Left, starts, refused-is, ended-is, goes-by, less, whole}
+use Rattle.rulebook.proofs.LoadLaws.{Left, starts, goes-by, less, whole, passes, refused-by, ended-by}
+use Rattle.rulebook.proofs.load.Proof.Numbers.{Inv-loop, μ-loop, book, at, tables, reading, left, read, number-is}
 use Rattle.rulebook.proofs.load.Statement.{statement}
 use Rattle.rulebook.proofs.load.Tie as tie
-
-abbrev Inv-loop : tie.InvT-loop
-Inv-loop book t₀ at₀ t at = Left book at t
-
-abbrev μ-loop : tie.MeasureT-loop
-μ-loop book t₀ at₀ t at = length book - at
-
--- the arms for the number of a record have met
-abbrev Met : Type 0
-Met = tie.At-match-came Inv-loop μ-loop
-
-abbrev book : Met → List ℕ
-book met = now (met .before .before .before .before .before .before .before .args .book)
-
-abbrev at : Met → ℕ
-at met = met .before .before .before .before .loop .at
-
-abbrev tables : Met → Tables
-tables met = met .before .before .before .before .loop .t
-
-abbrev reading : Met → Reading
-reading met = met .before .before .before .read .result
-
-left : (met : Met) → Left (book met) (at met) (tables met)
-left met = met .before .before .before .before .loop .inv
-
-read : (met : Met) → ReadAt (book met) (at met) (reading met)
-read met = met .before .before .before .read .ensures
-
-number-is : (met : Met) → met .match .number ≡ numberOf (tables met) (reading met)
-number-is met =
-    let t = tables met in
-    let r = reading met in
-    ⊎-elim (λ w. w .2 ∙ w .1 .ensures ∙ laws.firm-number t r (read met) (w .0 .keys1))
-    (⊎-elim (λ w. w .2 ∙ w .1 .ensures ∙ laws.person-number t r (read met) (w .0 .keys2))
-    (⊎-elim (λ w. w .2 ∙ w .1 .ensures ∙ laws.folder-number t r (read met) (w .0 .keys3))
-    (⊎-elim (λ w. w .2 ∙ w .1 .ensures ∙ laws.role-number t r (read met) (w .0 .keys4))
-    (⊎-elim (λ w. w .3 ∙ w .2 .ensures ∙ laws.pair-number t r (read met) (w .0 .keys5))
-    (⊎-elim (λ w. w .2 ∙ w .1 .ensures ∙ laws.mark-number t r (read met) (w .0 .keys6))
-    (λ w.
-    let rest = w .0 .rest in
-    w .1
-    ∙ laws.other-number t r (r .kind) refl (rest .0 .0 .0 .0 .0 .1) (rest .0 .0 .0 .0 .1) (rest .0 .0 .0 .1) (rest .0 .0 .1) (rest .0 .1)
-    (rest .1)))))))
-    (met .match .came)
+mod Numbers
 
 -- the record has passed
 abbrev Passed : Type 0
 Passed = tie.Else1 Inv-loop μ-loop
 
+passed : (p : Passed) → numberOf (tables (p .before)) (reading (p .before)) ≡ 0
+passed p = passes (left (p .before)) (read (p .before)) (number-is (p .before)) (p .if1 .left)
+
 inside : (p : Passed) → inRange (recordRead (reading (p .before))) ≡ true
 inside p = read (p .before) .inside
 
 lessens : (p : Passed) → length (book (p .before)) - reading (p .before) .next < length (book (p .before)) - at (p .before)
-lessens p = less (left (p .before)) (read (p .before)) (number-is (p .before)) (p .if1 .left)
+lessens p = less (left (p .before)) (read (p .before)) refl (passed p)
 
 goes : (p : Passed) (k : ℕ) (x : Record) → reading (p .before) .kind ≡ suc k → recordRead (reading (p .before)) ≡ x
     → Left (book (p .before)) (reading (p .before) .next) (declare (tables (p .before)) x)
-goes p = goes-by (left (p .before)) (read (p .before)) (number-is (p .before)) (p .if1 .left)
+goes p = goes-by (left (p .before)) (read (p .before)) refl (passed p)
 
 empty-requires : tie.Need-empty-requires Inv-loop μ-loop
 empty-requires c κs = search needs
@@ -161,13 +115,16 @@ element-copy-out-mark-number-2 c = laws.public-inside _ (c .before .before .befo
 mark-number-requires : tie.Need-mark-number-requires Inv-loop μ-loop
 mark-number-requires c κs = search needs
 
+end-number-requires : tie.Need-end-number-requires Inv-loop μ-loop
+end-number-requires c κs = search needs
+
 refuse-requires : tie.Need-refuse-requires Inv-loop μ-loop
 refuse-requires c κs = search needs
 
 returns : tie.Need-returns Inv-loop μ-loop
 returns c =
     let met = c .before .before in
-    c .refuse .ensures ∙ refused-is (left met) (read met) (number-is met) (c .before .if1 .taken)
+    c .refuse .ensures ∙ refused-by (left met) (read met) (number-is met) (c .before .if1 .taken)
 
 finish-requires : tie.Need-finish-requires Inv-loop μ-loop
 finish-requires c κs = search needs
@@ -176,13 +133,13 @@ returns-2 : tie.Need-returns-2 Inv-loop μ-loop
 returns-2 c =
     let met = c .before .before .before in
     c .finish .ensures
-    ∙ ended-is (left met) (read met) (number-is met) (c .before .before .if1 .left) (c .before .match2 .keys1)
+    ∙ ended-by (left met) (read met) (number-is met) (c .before .before .if1 .left) (c .before .match2 .keys1)
 
 new-firm-requires : tie.Need-new-firm-requires Inv-loop μ-loop
 new-firm-requires c κs = search needs
 
-mul-t45 : tie.Need-mul-t45 Inv-loop μ-loop
-mul-t45 c = search needs
+mul-t46 : tie.Need-mul-t46 Inv-loop μ-loop
+mul-t46 c = search needs
 
 element-set-from-t : tie.Need-element-set-from-t Inv-loop μ-loop
 element-set-from-t c = laws.firm-inside _ (inside (c .before .before)) (c .before .match2 .keys3)
@@ -190,8 +147,8 @@ element-set-from-t c = laws.firm-inside _ (inside (c .before .before)) (c .befor
 new-person-requires : tie.Need-new-person-requires Inv-loop μ-loop
 new-person-requires c κs = search needs
 
-mul-t49 : tie.Need-mul-t49 Inv-loop μ-loop
-mul-t49 c = search needs
+mul-t50 : tie.Need-mul-t50 Inv-loop μ-loop
+mul-t50 c = search needs
 
 element-set-from-t-2 : tie.Need-element-set-from-t-2 Inv-loop μ-loop
 element-set-from-t-2 c = laws.person-inside _ (inside (c .before .before)) (c .before .match2 .keys4)
@@ -199,8 +156,8 @@ element-set-from-t-2 c = laws.person-inside _ (inside (c .before .before)) (c .b
 new-folder-requires : tie.Need-new-folder-requires Inv-loop μ-loop
 new-folder-requires c κs = search needs
 
-mul-t53 : tie.Need-mul-t53 Inv-loop μ-loop
-mul-t53 c = search needs
+mul-t54 : tie.Need-mul-t54 Inv-loop μ-loop
+mul-t54 c = search needs
 
 element-set-from-t-3 : tie.Need-element-set-from-t-3 Inv-loop μ-loop
 element-set-from-t-3 c = laws.folder-inside _ (inside (c .before .before)) (c .before .match2 .keys5)
@@ -208,8 +165,8 @@ element-set-from-t-3 c = laws.folder-inside _ (inside (c .before .before)) (c .b
 new-role-requires : tie.Need-new-role-requires Inv-loop μ-loop
 new-role-requires c κs = search needs
 
-mul-t57 : tie.Need-mul-t57 Inv-loop μ-loop
-mul-t57 c = search needs
+mul-t58 : tie.Need-mul-t58 Inv-loop μ-loop
+mul-t58 c = search needs
 
 element-set-from-t-4 : tie.Need-element-set-from-t-4 Inv-loop μ-loop
 element-set-from-t-4 c = laws.role-inside _ (inside (c .before .before)) (c .before .match2 .keys6)
@@ -238,8 +195,8 @@ element-copy-out-made-public c = laws.public-inside _ (inside (c .before)) (c .m
 made-public-requires : tie.Need-made-public-requires Inv-loop μ-loop
 made-public-requires c κs = search needs
 
-mul-t73 : tie.Need-mul-t73 Inv-loop μ-loop
-mul-t73 c = search needs
+mul-t74 : tie.Need-mul-t74 Inv-loop μ-loop
+mul-t74 c = search needs
 
 element-set-from-t-5 : tie.Need-element-set-from-t-5 Inv-loop μ-loop
 element-set-from-t-5 c = laws.public-inside _ (inside (c .before .before .before)) (c .before .before .match2 .keys8)
@@ -251,7 +208,7 @@ returns-3 : tie.Need-returns-3 Inv-loop μ-loop
 returns-3 c =
     let met = c .before .before .before in
     let rest = c .before .match2 .rest in
-    let here = whole (left met) (read met) (number-is met) (c .before .before .if1 .left) in
+    let here = whole (left met) (read met) refl (passed (c .before .before)) in
     let above : lastKind < reading met .kind =
     past-last _ (rest .0 .0 .0 .0 .0 .0 .0 .1) (rest .0 .0 .0 .0 .0 .0 .1) (rest .0 .0 .0 .0 .0 .1) (rest .0 .0 .0 .0 .1)
     (rest .0 .0 .0 .1) (rest .0 .0 .1) (rest .0 .1) (rest .1) in
@@ -353,21 +310,22 @@ load-spec =
     mul-mark-number-2
     element-copy-out-mark-number-2
     mark-number-requires
+    end-number-requires
     refuse-requires
     returns
     finish-requires
     returns-2
     new-firm-requires
-    mul-t45
+    mul-t46
     element-set-from-t
     new-person-requires
-    mul-t49
+    mul-t50
     element-set-from-t-2
     new-folder-requires
-    mul-t53
+    mul-t54
     element-set-from-t-3
     new-role-requires
-    mul-t57
+    mul-t58
     element-set-from-t-4
     mul-with-bit16
     element-copy-out-with-bit16
@@ -377,7 +335,7 @@ load-spec =
     mul-made-public
     element-copy-out-made-public
     made-public-requires
-    mul-t73
+    mul-t74
     element-set-from-t-5
     refuse-requires-2
     returns-3

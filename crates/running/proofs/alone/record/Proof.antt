@@ -17,9 +17,9 @@ use Rattle.running.proofs.alone.record.Tie as tie
 use Rattle.running.proofs.alone.record.Reads as reads
 use Rattle.running.proofs.alone.record.Lts as lts
 use Rattle.bits.proofs.wide.Reads as wide-reads
-use Rattle.keeping.proofs.recording.record_access.Reads as record-access-reads
-use Rattle.keeping.proofs.recording.record_start.Reads as record-start-reads
-use Rattle.keeping.proofs.recording.record_step.Reads as record-step-reads
+use Rattle.running.proofs.recording.record_access.Reads as record-access-reads
+use Rattle.running.proofs.recording.record_start.Reads as record-start-reads
+use Rattle.running.proofs.recording.record_step.Reads as record-step-reads
 
 wide-requires : tie.Need-wide-requires
 wide-requires c κs = search needs

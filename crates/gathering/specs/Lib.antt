@@ -1,0 +1,4 @@
+pub mod Turning
+pub mod Adding
+pub mod Groups
+pub mod Users

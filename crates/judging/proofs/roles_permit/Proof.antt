@@ -1,0 +1,72 @@
+-- `roles_permit` asks for a role without steps, then for one with all steps, and then with the steps that the person applied.
+use mathlib.Core.Path.{sym, _∙_}
+use borrow.Author.Tests.{not-true}
+use Rattle.policy.proofs.Requests.{person-below}
+use Rattle.judging.proofs.RoleRights.{roles-say, least-refused, most-held}
+use borrow.Author.Needs.{needs}
+use Rattle.judging.proofs.roles_permit.Statement.{statement}
+use Rattle.judging.proofs.roles_permit.Tie as tie
+
+rights-of-accesses-requires : tie.Need-rights-of-accesses-requires
+rights-of-accesses-requires c κs = search needs
+
+persons-requires : tie.Need-persons-requires
+persons-requires c κs = search needs
+
+has-started-requires : tie.Need-has-started-requires
+has-started-requires c κs = (c .before .before .before .pre .0, person-below _ _ (c .before .before .before .pre .2))
+
+role-holds-requires : tie.Need-role-holds-requires
+role-holds-requires c κs = search needs
+
+returns : tie.Need-returns
+returns c =
+    let at-started = c .before .before in
+    let start = at-started .before .before .before .before in
+    least-refused (start .args .t) (start .args .h .now) (start .args .s) (start .pre .1) (start .pre .2) (start .pre .3)
+    (at-started .before .before .rights-of-accesses .ensures) (at-started .before .persons .ensures) (at-started .has-started .ensures)
+    (start .args .right) (sym (c .before .role-holds .ensures) ∙ not-true _ (c .if1 .taken))
+
+role-holds-requires-2 : tie.Need-role-holds-requires-2
+role-holds-requires-2 c κs = search needs
+
+returns-2 : tie.Need-returns-2
+returns-2 c =
+    let at-started = c .before .before .before .before in
+    let start = at-started .before .before .before .before in
+    most-held (start .args .t) (start .args .h .now) (start .args .s) (start .pre .1) (start .pre .2) (start .pre .3)
+    (at-started .before .before .rights-of-accesses .ensures) (at-started .before .persons .ensures) (at-started .has-started .ensures)
+    (start .args .right) (sym (c .before .role-holds2 .ensures) ∙ c .if2 .taken)
+
+steps-applied-requires : tie.Need-steps-applied-requires
+steps-applied-requires c κs =
+    let start = c .before .before .before .before .before .before .before .before in
+    (start .pre .0, person-below _ _ (start .pre .2))
+
+role-holds-requires-3 : tie.Need-role-holds-requires-3
+role-holds-requires-3 c κs = search needs
+
+returns-3 : tie.Need-returns-3
+returns-3 c =
+    let at-started = c .before .before .before .before .before .before in
+    let start = at-started .before .before .before .before in
+    λ r d own uses.
+    c .role-holds3 .ensures
+    ∙ roles-say (start .args .t) (start .args .h .now) (start .args .s) (start .pre .1) (start .pre .2) (start .pre .3)
+    (at-started .before .before .rights-of-accesses .ensures) (at-started .before .persons .ensures) (at-started .has-started .ensures)
+    (start .args .right) (c .before .steps-applied .ensures) r d own uses
+
+pub roles-permit-spec : {M : Type 1} → statement M
+roles-permit-spec =
+    tie.close
+    (tie.spec
+    rights-of-accesses-requires
+    persons-requires
+    has-started-requires
+    role-holds-requires
+    returns
+    role-holds-requires-2
+    returns-2
+    steps-applied-requires
+    role-holds-requires-3
+    returns-3)

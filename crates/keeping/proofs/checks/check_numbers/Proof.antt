@@ -1,0 +1,15 @@
+-- `check_numbers` is the list of the numbers.
+use mathlib.Core.Path.{refl}
+use Rattle.keeping.specs.Failing.{numberAt}
+use Rattle.keeping.proofs.checks.check_numbers.Statement.{statement}
+use Rattle.keeping.proofs.checks.check_numbers.Tie as tie
+use Rattle.keeping.proofs.checks.check_numbers.Reads as reads
+use Rattle.keeping.proofs.checks.check_numbers.Lts as lts
+
+-- src/checks.rt:67:1
+returns : tie.Need-returns
+unfolding numberAt
+returns c = refl
+
+pub check-numbers-spec : {M : Type 1} → statement M
+check-numbers-spec = tie.close (tie.spec returns)

@@ -1,0 +1,15 @@
+-- `grants` is the list of the grants.
+use mathlib.Core.Path.{refl}
+use Rattle.keeping.specs.Failing.{grantAt}
+use Rattle.keeping.proofs.checks.grants.Statement.{statement}
+use Rattle.keeping.proofs.checks.grants.Tie as tie
+use Rattle.keeping.proofs.checks.grants.Reads as reads
+use Rattle.keeping.proofs.checks.grants.Lts as lts
+
+-- src/checks.rt:73:1
+returns : tie.Need-returns
+unfolding grantAt
+returns c = refl
+
+pub grants-spec : {M : Type 1} → statement M
+grants-spec = tie.close (tie.spec returns)

@@ -1,0 +1,28 @@
+-- `unknown_check` is 1 where a number is out of range or a set is marked.
+use borrow.Author.Needs.{needs}
+use mathlib.Core.Bool.{_||_}
+use mathlib.Core.Path.{ap, _∙_}
+use Rattle.keeping.proofs.FailingLaws.{or-ones}
+use Rattle.keeping.proofs.checks.unknown_check.Statement.{statement}
+use Rattle.keeping.proofs.checks.unknown_check.Tie as tie
+use Rattle.keeping.proofs.checks.unknown_check.Reads as reads
+use Rattle.keeping.proofs.checks.unknown_check.Lts as lts
+use Rattle.bits.proofs.one_if.Reads as one-if-reads
+use Rattle.level.proofs.sets.marked.Reads as marked-reads
+
+-- src/checks.rt:59:28
+marked-requires : tie.Need-marked-requires
+marked-requires c κs = search needs
+
+-- src/checks.rt:59:15
+one-if-requires : tie.Need-one-if-requires
+one-if-requires c κs = search needs
+
+-- src/checks.rt:53:1
+returns : tie.Need-returns
+returns c =
+    λ a b m n out l k needs has e.
+    or-ones out (m || n) e (rw (c .before .marked .ensures a b m n l k needs has) at (c .one-if .ensures .0))
+
+pub unknown-check-spec : {M : Type 1} → statement M
+unknown-check-spec = tie.close (tie.spec marked-requires one-if-requires returns)

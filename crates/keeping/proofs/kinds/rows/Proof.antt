@@ -1,0 +1,15 @@
+-- `rows` is the list of the rows.
+use mathlib.Core.Path.{refl}
+use Rattle.keeping.specs.Kinds.{kindRows}
+use Rattle.keeping.proofs.kinds.rows.Statement.{statement}
+use Rattle.keeping.proofs.kinds.rows.Tie as tie
+use Rattle.keeping.proofs.kinds.rows.Reads as reads
+use Rattle.keeping.proofs.kinds.rows.Lts as lts
+
+-- src/kinds.rt:24:1
+returns : tie.Need-returns
+unfolding kindRows
+returns c = refl
+
+pub rows-spec : {M : Type 1} → statement M
+rows-spec = tie.close (tie.spec returns)

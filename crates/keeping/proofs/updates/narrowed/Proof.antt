@@ -1,0 +1,19 @@
+-- `narrowed` is the part of the set in the other, or the set.
+use borrow.Author.Needs.{needs}
+use native.Mathlib.Omega.{arith}
+use Rattle.keeping.proofs.UpdateLaws.{narrow}
+use Rattle.keeping.proofs.updates.narrowed.Statement.{statement}
+use Rattle.keeping.proofs.updates.narrowed.Tie as tie
+use Rattle.keeping.proofs.updates.narrowed.Reads as reads
+use Rattle.keeping.proofs.updates.narrowed.Lts as lts
+
+-- src/updates.rt:17:21
+sub-result : tie.Need-sub-result
+sub-result c = search needs
+
+-- src/updates.rt:14:1
+returns : tie.Need-returns
+returns c = λ b e. narrow b (c .args .set) (c .args .other) (omega arith) (omega arith) e
+
+pub narrowed-spec : {M : Type 1} → statement M
+narrowed-spec = tie.close (tie.spec sub-result returns)

@@ -1,0 +1,111 @@
+-- `run` gathers what the run keeps, comes as far as `run_by` does, and stores the levels that the sets kept are those of.
+use borrow.Author.Needs.{needs}
+use Rattle.levels.proofs.SetLaws.{sets-held}
+use Rattle.running.proofs.KeptTurns.{kept-stored}
+use Rattle.running.proofs.kept.run.Statement.{statement}
+use Rattle.running.proofs.kept.run.Tie as tie
+use Rattle.running.proofs.kept.run.Reads as reads
+use Rattle.running.proofs.kept.run.Lts as lts
+use Rattle.gathering.proofs.done.Reads as done-reads
+use Rattle.gathering.proofs.firms.Reads as firms-reads
+use Rattle.gathering.proofs.holders.Reads as holders-reads
+use Rattle.gathering.proofs.holding.Reads as holding-reads
+use Rattle.gathering.proofs.next.Reads as next-reads
+use Rattle.levels.proofs.sets.gather.Reads as gather-reads
+use Rattle.levels.proofs.sets.store.Reads as store-reads
+use Rattle.rules.proofs.classes.Reads as classes-reads
+use Rattle.running.proofs.kept.run_by.Reads as run-by-reads
+
+-- src/kept.rt:105:19
+holders-requires : tie.Need-holders-requires
+holders-requires c κs = search needs
+
+-- src/kept.rt:106:19
+classes-requires : tie.Need-classes-requires
+classes-requires c κs = search needs
+
+-- src/kept.rt:107:21
+firms-requires : tie.Need-firms-requires
+firms-requires c κs = search needs
+
+-- src/kept.rt:108:23
+holding-requires : tie.Need-holding-requires
+holding-requires c κs = search needs
+
+-- src/kept.rt:109:20
+done-requires : tie.Need-done-requires
+done-requires c κs = search needs
+
+-- src/kept.rt:110:20
+next-requires : tie.Need-next-requires
+next-requires c κs = search needs
+
+-- src/kept.rt:111:20
+gather-requires : tie.Need-gather-requires
+gather-requires c κs = search needs
+
+-- src/kept.rt:112:9
+run-by-requires : tie.Need-run-by-requires
+run-by-requires c κs =
+    let start = c .before .before .before .before .before .before .before .before .before .before .before .before .before .before .before
+    .before .before .before .before .before .before .before .before .before .before .before in (
+      start .pre .0,
+      start .pre .1,
+      c .before .before .before .before .before .before .before .before .before .before .before .before .before .before .before .before
+          .before .before .before .before .before .holders .ensures,
+      c .before .before .before .before .before .before .before .before .before .before .before .before .before .before .before .before
+          .before .before .before .before .classes .ensures,
+      record {
+        firms = c .before .before .before .before .before .before .before .before .before .before .before .before .before .before .before
+            .before .before .before .firms .ensures;
+        holding = c .before .before .before .before .before .before .before .before .before .before .before .before .before .before
+            .before .before .holding .ensures;
+        done = c .before .before .before .before .before .before .before .before .before .before .before .before .before .before .done
+            .ensures;
+        next = c .before .before .before .before .before .before .before .before .before .before .before .before .next .ensures _ (c
+            .before .before .before .before .before .before .before .before .before .before .before .before .before .before .done .ensures);
+        levels = c .before .before .before .before .before .before .before .before .before .before .gather .ensures;
+      },
+    )
+
+-- src/kept.rt:126:5
+store-requires : tie.Need-store-requires
+store-requires c κs = search needs
+
+-- src/kept.rt:98:1
+same-length : tie.Need-same-length
+same-length c = search needs
+
+-- src/kept.rt:98:1
+same-length-2 : tie.Need-same-length-2
+same-length-2 c = search needs
+
+-- src/kept.rt:98:1
+same-length-3 : tie.Need-same-length-3
+same-length-3 c = search needs
+
+-- src/kept.rt:98:1
+returns : tie.Need-returns
+returns c =
+    let kept = c .before .before .before .before .before .before .before .before .before .run-by .ensures in
+    let l = c .before .before .store .ensures (kept .levels) (kept .keeps .levels .buffer) (sets-held _ (kept .levels) _ (kept .keeps
+    .levels)) in
+    kept-stored kept l
+
+pub run-spec : {M : Type 1} → statement M
+run-spec =
+    tie.close
+    (tie.spec
+    holders-requires
+    classes-requires
+    firms-requires
+    holding-requires
+    done-requires
+    next-requires
+    gather-requires
+    run-by-requires
+    store-requires
+    same-length
+    same-length-2
+    same-length-3
+    returns)
