@@ -143,17 +143,27 @@ granted-at n l =
     same false true e = absurd (false-elim false refl e)
     same false false e = refl
 
--- ---- a mask with neither wall nor roles nor pipeline
+-- ---- a mask with none of some rules
 
-pub quiet : (mask : ℕ) → bitAnd mask 13 ≡ 0 → (bit mask 0 ≡ false) × (bit mask 2 ≡ false) × (bit mask 3 ≡ false)
+pub not-among : (mask some k : ℕ) → bitAnd mask some ≡ 0 → bit some k ≡ true → bit mask k ≡ false
+not-among mask some k none set =
+    ⊎-elim
+    (λ on.
+    absurd
+    (false-elim (bit 0 k) (bit-zero k) (ap (λ (n : ℕ). bit n k) (sym none) ∙ bit-and mask some k ∙ ap₂ _&&_ on set)))
+    (λ e. e)
+    (decide (bit mask k))
+
+pub no-rights-no-steps : (mask : ℕ) → bitAnd mask 12 ≡ 0 → (bit mask 2 ≡ false) × (bit mask 3 ≡ false)
 unfolding bit
-quiet mask none = (off 0 refl, off 2 refl, off 3 refl)
-  where
-    off : (k : ℕ) → bit 13 k ≡ true → bit mask k ≡ false
-    off k set =
-        ⊎-elim
-        (λ on.
-        absurd
-        (false-elim (bit 0 k) (bit-zero k) (ap (λ (n : ℕ). bit n k) (sym none) ∙ bit-and mask 13 k ∙ ap₂ _&&_ on set)))
-        (λ e. e)
-        (decide (bit mask k))
+no-rights-no-steps mask none = (not-among mask 12 2 none refl, not-among mask 12 3 none refl)
+
+pub levels-only : (mask : ℕ) → bitAnd mask 13 ≡ 0 → (bit mask 0 ≡ false) × (bit mask 2 ≡ false) × (bit mask 3 ≡ false)
+unfolding bit
+levels-only mask none = (not-among mask 13 0 none refl, not-among mask 13 2 none refl, not-among mask 13 3 none refl)
+
+-- the bits of the three rules where only the wall may fail
+pub wall-alone : (b : Bool) {n : ℕ} → n ≡ cond b 2 0 → n ≡ othersOf b false false
+unfolding othersOf
+wall-alone true e = e
+wall-alone false e = e

@@ -1,5 +1,6 @@
 pub mod KindLaws
 pub mod FailingLaws
+pub mod FewerLaws
 pub mod UpdateLaws
 pub mod KeptLaws
 pub mod GrantLaws

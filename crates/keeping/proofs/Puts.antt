@@ -29,6 +29,7 @@ use Rattle.policy.specs.OneMore.{folderOf, stepOf}
 use Rattle.policy.proofs.Requests.{declared-place, folder-below}
 use Rattle.policy.proofs.GivenEntries.{folder-kind}
 use Rattle.pipeline.specs.Steps.{pipelineIn}
+use Rattle.request.specs.declared.Parsed.{Parsed}
 use Rattle.rules.specs.Sets.{firmsOf}
 use Rattle.rules.specs.Kept.{holdsRight}
 use Rattle.level.specs.Sets.{levelSet}
@@ -63,6 +64,12 @@ use Rattle.keeping.proofs.PutLaws.{
   granted-keeps,
   kept-after as own-kept,
 }
+
+-- the numbers of a request that was placed are within bounds
+pub placed-at : (r : Parsed) {x : Placed} → 15 < r .kind → r .kind < 20 → r .step < 256 → x ≡ placedBy (r .kind) (r .person) (r .target) (r
+    .step)
+    → PlacedAs (askedBy (r .kind) (r .person) (r .target) (r .step)) x
+placed-at r low high small e = rw e (placed-as (r .kind) (r .person) (r .target) (r .step) low high small)
 
 -- what is kept, part by part
 parts : {firms firms′ holding holding′ done done′ next next′ sets sets′ : List ℕ} → firms ≡ firms′ → holding ≡ holding′ → done ≡ done′

@@ -20,6 +20,7 @@ use policy::Folder;
 use request::Parsed;
 
 pub mod checks;
+mod fewer;
 pub mod kinds;
 pub mod updates;
 
@@ -34,9 +35,6 @@ pub struct Asked {
     pub holders: u64,
     pub next: u64,
 }
-
-// The rules beside low-water, which ask what persons did or what was done on folders.
-const ASKING: u8 = 13;
 
 // The wall, the roles and the pipeline, for a request of a kind, which the wall asks about if `counts` is 1.
 fn others_check(
@@ -57,9 +55,6 @@ fn others_check(
         (bit mask pipelineRule && (not (bit (asked .next) (at .step % 64)) && isStep q)))
         ⌝ }
 {
-    if mask & ASKING == 0 {
-        return 0;
-    }
     let wall = checks::wall_check(mask, asked.counted, asked.class, firm, counts);
     let roles = checks::roles_check(mask, asked.holding, asked.holders);
     let step = kinds::row(rows, kind, kinds::STEP);
@@ -118,9 +113,6 @@ fn keep(
         (sets (now (firms .exit)) (now (holding .exit)) (now (done .exit)) (now (next .exit))))
         ⌝ }
 {
-    if mask & ASKING == 0 {
-        return;
-    }
     let s = at.person;
     updates::keep_firm(mask, firms, s, firm, counts, all);
     updates::keep_roles(mask, holding, s, holders, all);
@@ -180,9 +172,9 @@ fn change(
     );
 }
 
-// Puts a request of one of the four kinds, on what is lent and kept; `class` are the firms of its folder's class, and `holders` has for
-// each right the roles that hold it.
-pub fn put(
+// Puts a request of one of the four kinds, on what is lent and kept, under any rules; `class` are the firms of its folder's class, and
+// `holders` has for each right the roles that hold it.
+fn put_by_all(
     mask: u8,
     steps: &[u16; 16],
     rows: &[u64; 64],
@@ -249,4 +241,73 @@ pub fn put(
         h,
     );
     numbers[first]
+}
+
+// The rules that ask what persons did or what was done on folders; and those of them that ask for rights or steps.
+const ASKING: u8 = 13;
+
+const BEYOND_WALL: u8 = 12;
+
+// Puts a request of one of the four kinds, and asks only for what the rules in force ask about.
+pub fn put(
+    mask: u8,
+    steps: &[u16; 16],
+    rows: &[u64; 64],
+    numbers: &[u8; 8],
+    grants: &[u64; 8],
+    holders: &[u64; 64],
+    class: u64,
+    folder: Folder,
+    firms: &mut [u64; 64],
+    holding: &mut [u64; 64],
+    done: &mut [u64; 128],
+    next: &mut [u64; 128],
+    sets: &mut [u64; 192],
+    h: &mut [u8],
+    r: Parsed,
+) -> u8
+    requires { ⌜
+        (now rows ≡ kindRows) × (now numbers ≡ numberAt) × (now grants ≡ grantAt) × (15 < r .kind) × (r .kind < 20)
+        × (length (now h) ≡ historyBytes) × Sized (kept (now firms) (now holding) (now done) (now next) (now sets))
+        ⌝ }
+    ensures { λ n. ⌜
+        Puts mask (now (holders .entry)) (now (steps .entry)) folder class (now (h .entry))
+        (kept (now (firms .entry)) (now (holding .entry)) (now (done .entry)) (now (next .entry)) (now (sets .entry))) r n (now (h .exit))
+        (kept (now (firms .exit)) (now (holding .exit)) (now (done .exit)) (now (next .exit)) (now (sets .exit)))
+        ⌝ }
+{
+    if mask & ASKING == 0 {
+        return fewer::put_by_levels(mask, rows, numbers, grants, sets, h, r);
+    }
+    if mask & BEYOND_WALL == 0 {
+        return fewer::put_by_wall(
+            mask,
+            rows,
+            numbers,
+            grants,
+            class,
+            folder,
+            firms,
+            sets,
+            h,
+            r,
+        );
+    }
+    put_by_all(
+        mask,
+        steps,
+        rows,
+        numbers,
+        grants,
+        holders,
+        class,
+        folder,
+        firms,
+        holding,
+        done,
+        next,
+        sets,
+        h,
+        r,
+    )
 }

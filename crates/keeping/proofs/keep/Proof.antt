@@ -1,8 +1,5 @@
--- `keep` makes each change by the function of its own; under a mask that has none of the three rules nothing is kept.
+-- `keep` makes each change by the function of its own.
 use borrow.Author.Needs.{needs}
-use mathlib.Core.Path.{refl}
-use Rattle.keeping.proofs.FailingLaws.{quiet}
-use Rattle.keeping.proofs.UpdateLaws.{either-way}
 use Rattle.keeping.proofs.keep.Statement.{statement}
 use Rattle.keeping.proofs.keep.Tie as tie
 use Rattle.keeping.proofs.keep.Reads as reads
@@ -10,18 +7,6 @@ use Rattle.keeping.proofs.keep.Lts as lts
 use Rattle.keeping.proofs.updates.keep_firm.Reads as keep-firm-reads
 use Rattle.keeping.proofs.updates.keep_roles.Reads as keep-roles-reads
 use Rattle.keeping.proofs.updates.keep_step.Reads as keep-step-reads
-
--- src/lib.rt:122:9
-returns : tie.Need-returns
-returns c =
-    λ g counted b all counts made.
-    let (wall, roles, pipeline) = quiet (c .before .args .mask) (c .if1 .taken) in
-    record {
-      firms = rw wall;
-      holding = rw roles;
-      done = rw pipeline (either-way b _);
-      next = rw pipeline (either-way b _);
-    }
 
 -- src/lib.rt:125:5
 keep-firm-requires : tie.Need-keep-firm-requires
@@ -36,8 +21,8 @@ keep-step-requires : tie.Need-keep-step-requires
 keep-step-requires c κs = search needs
 
 -- src/lib.rt:97:1
-returns-2 : tie.Need-returns-2
-returns-2 c =
+returns : tie.Need-returns
+returns c =
     λ g counted b all counts made.
     record {
       firms = c .before .before .before .before .before .keep-firm .ensures g counted all counts;
@@ -49,4 +34,4 @@ returns-2 c =
 pub keep-spec : {M : Type 1} → statement M
 keep-spec =
     tie.close
-    (tie.spec returns keep-firm-requires keep-roles-requires keep-step-requires returns-2)
+    (tie.spec keep-firm-requires keep-roles-requires keep-step-requires returns)

@@ -1,10 +1,9 @@
--- `others_check` has the bits of the three rules, each by its own contract; under a mask that has none of them no bit is set.
+-- `others_check` has the bits of the three rules, each by its own contract.
 use borrow.Author.Needs.{needs}
-use mathlib.Core.Path.{refl, ap₂, _∙_}
+use mathlib.Core.Path.{ap₂, _∙_}
 use lib.Bits.{bitOr}
 use Rattle.keeping.specs.Kinds.{isStep}
 use Rattle.keeping.specs.Failing.{othersOf}
-use Rattle.keeping.proofs.FailingLaws.{quiet}
 use Rattle.keeping.proofs.others_check.Statement.{statement}
 use Rattle.keeping.proofs.others_check.Tie as tie
 use Rattle.keeping.proofs.others_check.Reads as reads
@@ -13,14 +12,6 @@ use Rattle.keeping.proofs.checks.pipeline_check.Reads as pipeline-check
 use Rattle.keeping.proofs.checks.roles_check.Reads as roles-check-reads
 use Rattle.keeping.proofs.checks.wall_check.Reads as wall-check-reads
 use Rattle.keeping.proofs.kinds.row.Reads as row-reads
-
--- src/lib.rt:61:9
-returns : tie.Need-returns
-unfolding othersOf
-returns c =
-    λ q counted row counts.
-    let (wall, roles, pipeline) = quiet (c .before .args .mask) (c .if1 .taken) in
-    rw (wall, roles, pipeline)
 
 -- src/lib.rt:63:9
 wall-check-requires : tie.Need-wall-check-requires
@@ -39,9 +30,9 @@ pipeline-check-requires : tie.Need-pipeline-check-requires
 pipeline-check-requires c κs = search needs
 
 -- src/lib.rt:42:1
-returns-2 : tie.Need-returns-2
+returns : tie.Need-returns
 unfolding othersOf
-returns-2 c =
+returns c =
     λ q counted row counts.
     ap₂ bitOr (ap₂ bitOr (c .before .before .before .wall-check .ensures counted counts) (c .before .before .roles-check .ensures))
     (c .pipeline-check .ensures (isStep q) (c .before .row .ensures ∙ row .step))
@@ -50,9 +41,8 @@ pub others-check-spec : {M : Type 1} → statement M
 others-check-spec =
     tie.close
     (tie.spec
-    returns
     wall-check-requires
     roles-check-requires
     row-requires
     pipeline-check-requires
-    returns-2)
+    returns)
