@@ -20,9 +20,12 @@ use std::hint::black_box;
 use std::process::ExitCode;
 use std::time::Instant;
 
-/// In each round each side runs every input of a workload once, in turns; the
-/// quickest run of an input counts.
-const ROUNDS: usize = 29;
+/// Every row is measured in so many passes over all rows, so that other work on
+/// the machine, which comes and goes, does not fall on all of one row; and in
+/// each pass in so many rounds. In a round each side runs every input of a row
+/// once, in turns; the quickest run of an input counts.
+const PASSES: usize = 6;
+const ROUNDS: usize = 5;
 
 /// One measurement of loading is so many loads of one book.
 const LOADS: usize = 100;
@@ -80,7 +83,7 @@ fn all_runs(input: &Input, count: usize) -> (usize, [f64; 3]) {
 
 /// One judge of an input: 1 if it is granted, and the nanoseconds of the proved
 /// and of the plain side.
-fn all_judges(input: &Input) -> (usize, [f64; 2]) {
+fn all_judges(input: &Input, _: usize) -> (usize, [f64; 2]) {
     let Lent { history, levels } = &input.first;
     let (book, request) = (black_box(&input.book), black_box(&input.requests));
     let start = Instant::now();
@@ -94,7 +97,7 @@ fn all_judges(input: &Input) -> (usize, [f64; 2]) {
 }
 
 /// One load of a book by each side: the nanoseconds.
-fn all_loads(input: &Input) -> (usize, [f64; 2]) {
+fn all_loads(input: &Input, _: usize) -> (usize, [f64; 2]) {
     let book = black_box(&input.book);
     let start = Instant::now();
     for _ in 0..LOADS {
@@ -109,74 +112,82 @@ fn all_loads(input: &Input) -> (usize, [f64; 2]) {
     (0, [ours, theirs])
 }
 
-/// What is granted of all inputs, and for each side the sum of the quickest
-/// runs.
-fn quickest<const SIDES: usize>(
-    inputs: &[Input],
-    measure: impl Fn(&Input) -> (usize, [f64; SIDES]),
-) -> (usize, [f64; SIDES]) {
-    let mut granted = vec![0; inputs.len()];
-    let mut best = vec![[f64::MAX; SIDES]; inputs.len()];
-    for _ in 0..ROUNDS {
-        for (k, input) in inputs.iter().enumerate() {
-            let (zeros, times) = measure(input);
-            granted[k] = zeros;
-            for (best, time) in best[k].iter_mut().zip(times) {
-                *best = time.min(*best);
+/// A row to be measured: its inputs, what is granted of each, and each side's
+/// quickest run of each.
+struct Measured<const SIDES: usize> {
+    name: &'static str,
+    mask: u8,
+    dense: bool,
+    requests: usize,
+    inputs: Vec<Input>,
+    granted: Vec<usize>,
+    best: Vec<[f64; SIDES]>,
+}
+
+impl<const SIDES: usize> Measured<SIDES> {
+    fn of(workload: &Workload, mask: u8) -> Measured<SIDES> {
+        let inputs = inputs(workload, mask);
+        Measured {
+            name: workload.name,
+            mask,
+            dense: workload.dense,
+            requests: workload.requests,
+            granted: vec![0; inputs.len()],
+            best: vec![[f64::MAX; SIDES]; inputs.len()],
+            inputs,
+        }
+    }
+
+    /// One pass.
+    fn measure(&mut self, measure: impl Fn(&Input, usize) -> (usize, [f64; SIDES])) {
+        for _ in 0..ROUNDS {
+            for (k, input) in self.inputs.iter().enumerate() {
+                let (zeros, times) = measure(input, self.requests);
+                self.granted[k] = zeros;
+                for (best, time) in self.best[k].iter_mut().zip(times) {
+                    *best = time.min(*best);
+                }
             }
         }
     }
-    let mut sums = [0.0; SIDES];
-    for (side, sum) in sums.iter_mut().enumerate() {
-        *sum = best.iter().map(|times| times[side]).sum();
+
+    /// For each side the sum of the quickest runs.
+    fn sums(&self) -> [f64; SIDES] {
+        let mut sums = [0.0; SIDES];
+        for times in &self.best {
+            for (sum, time) in sums.iter_mut().zip(times) {
+                *sum += time;
+            }
+        }
+        sums
     }
-    (granted.iter().sum(), sums)
+
+    /// Prints the row: nanoseconds a request of the proved side, of plain Rust and, if
+    /// there is a third, of the run that keeps.
+    fn row(&self) -> Row {
+        let requests = self.inputs.len() * self.requests;
+        let sums = self.sums().map(|sum| sum / requests as f64);
+        let row = Row {
+            name: self.name,
+            mask: self.mask,
+            dense: self.dense,
+            requests,
+            granted: self.granted.iter().sum(),
+            proved: sums[0],
+            plain: sums[1],
+            keeping: sums.get(2).copied(),
+        };
+        println!("{row}");
+        row
+    }
 }
 
-/// Measures and prints a row of run calls.
-fn compare(workload: &Workload, mask: u8) -> Row {
-    let measure = |input: &Input| all_runs(input, workload.requests);
-    let (granted, sums) = quickest(&inputs(workload, mask), measure);
-    let requests = workload.inputs * workload.requests;
-    let [proved, plain, keeping] = sums.map(|sum| sum / requests as f64);
-    let row = Row {
-        name: workload.name,
-        mask,
-        dense: workload.dense,
-        requests,
-        granted,
-        proved,
-        plain,
-        keeping: Some(keeping),
-    };
-    println!("{row}");
-    row
-}
-
-/// Measures and prints a row of one judge.
-fn compare_judges(workload: &Workload, mask: u8) {
-    let (granted, sums) = quickest(&inputs(workload, mask), all_judges);
-    let requests = workload.inputs;
-    let [proved, plain] = sums.map(|sum| sum / requests as f64);
-    let row = Row {
-        name: workload.name,
-        mask,
-        dense: workload.dense,
-        requests,
-        granted,
-        proved,
-        plain,
-        keeping: None,
-    };
-    println!("{row}");
-}
-
-/// Measures and prints the load of a full book: how many times as long the
-/// proved load takes.
-fn compare_loads() -> f64 {
-    let inputs = inputs(&ONE_REQUEST, MASKS[0]);
-    let (_, sums) = quickest(&inputs, all_loads);
-    let [proved, plain] = sums.map(|sum| sum / (inputs.len() * LOADS) as f64);
+/// Prints the load of a full book: how many times as long the proved load
+/// takes.
+fn loads_ratio(loads: &Measured<2>) -> f64 {
+    let [proved, plain] = loads
+        .sums()
+        .map(|sum| sum / (loads.inputs.len() * LOADS) as f64);
     let ratio = proved / plain;
     println!(
         "load of a full book: proved {proved:.1} ns, plain Rust {plain:.1} ns, ratio {ratio:.2}"
@@ -184,24 +195,43 @@ fn compare_loads() -> f64 {
     ratio
 }
 
-fn main() -> ExitCode {
-    println!("{HEADING}");
+/// The rows of days and months.
+fn day_and_month_rows() -> Vec<Measured<3>> {
     let mut rows = Vec::new();
     for workload in &WORKLOADS {
         for mask in MASKS {
             if mask != NO_RULE || !workload.dense {
-                rows.push(compare(workload, mask));
+                rows.push(Measured::of(workload, mask));
             }
         }
     }
-    let one_requests = [15, 1, 4, 0].map(|mask| compare(&ONE_REQUEST, mask));
-    for mask in [15, 1, 4] {
-        compare_judges(&ONE_JUDGE, mask);
+    rows
+}
+
+fn main() -> ExitCode {
+    let mut runs = day_and_month_rows();
+    let mut one_requests = [15, 1, 4, 0].map(|mask| Measured::of(&ONE_REQUEST, mask));
+    let mut one_judges = [15, 1, 4].map(|mask| Measured::of(&ONE_JUDGE, mask));
+    let mut loads = Measured::of(&ONE_REQUEST, MASKS[0]);
+    for _ in 0..PASSES {
+        for row in runs.iter_mut().chain(&mut one_requests) {
+            row.measure(all_runs);
+        }
+        for row in &mut one_judges {
+            row.measure(all_judges);
+        }
+        loads.measure(all_loads);
+    }
+    println!("{HEADING}");
+    let runs: Vec<Row> = runs.iter().map(Measured::row).collect();
+    let one_requests = one_requests.each_ref().map(Measured::row);
+    for row in &one_judges {
+        row.row();
     }
     println!();
-    let load = compare_loads();
+    let load = loads_ratio(&loads);
     println!();
-    match bars::hold(&rows, &one_requests, load) {
+    match bars::hold(&runs, &one_requests, load) {
         true => ExitCode::SUCCESS,
         false => ExitCode::FAILURE,
     }

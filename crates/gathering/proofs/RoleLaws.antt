@@ -128,7 +128,8 @@ module _ (P : ℕ → ℕ → Type 0) where
 
 -- ---- a set of 64 of which only the first 32 can be members
 
-pub narrow : (p q : ℕ → Bool) → ((k : ℕ) → k < 32 → p k ≡ q k) → ((k : ℕ) → 32 ≤ k → p k ≡ false) → maskBelow 64 p ≡ maskBelow 32 q
+pub narrow : (p q : ℕ → Bool) → ((k : ℕ) → k < 32 → p k ≡ q k) → ((k : ℕ) → 32 ≤ k → p k ≡ false)
+    → maskBelow 64 p ≡ maskBelow 32 q
 narrow p q same none =
     bits-ext 64 _ _ (mask-lt 64 p) (lt-of-lt-of-le (mask-lt 32 q) (pow-mono {i = 32} {j = 64} (omega arith))) (λ k l.
     bit-mask-below 64 p k l ∙ ⊎-elim (λ y. below k (ltb-true k 32 y)) (λ n. above k (ltb-false k 32 n)) (decide (ltb k 32)))

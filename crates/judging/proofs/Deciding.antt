@@ -1,6 +1,5 @@
 -- A request is judged by what is known of it: tests and sets that say of each rule in force what the rule's definition says. A rule that is
--- not in force refuses nothing, so nothing needs to be known for it. Where the sets come from, the history of one request or what a run
--- has kept, does not matter here.
+-- not in force refuses nothing, so nothing needs to be known for it. Where the sets come from does not matter here.
 use Prim.Native.Nat.{ℕ, _+_, _%_, _<_}
 use native.Mathlib.Omega.{arith}
 use mathlib.Core.Path.{_≡_, refl, sym, ap, ap₂, _∙_}
@@ -89,12 +88,6 @@ module _ {t : Tables} {H : Request → Bool} {levels : ℕ → ℕ} {r : Request
   pub pipeline-decides : {n x : ℕ} → Decides t H levels r mask w c k p → n ≡ numberOf mask w c k true → n ≡ 0
       → x ≡ cond (bit mask pipelineRule implies p) 0 17 → x ≡ judged t H levels r
   pipeline-decides d passed zero e = e ∙ sym (passed-three mask w k p c (sym zero ∙ passed)) ∙ whole d
-
--- a request of which the pipeline asks nothing
-pub three-decide : {t : Tables} {H : Request → Bool} {levels : ℕ → ℕ} {r : Request} {mask : ℕ} {w : Bool} {c : Comparison} {k : Bool} {n
-    : ℕ}
-    → Decides t H levels r mask w c k true → n ≡ numberOf mask w c k true → n ≡ judged t H levels r
-three-decide d e = e ∙ whole d
 
 -- ---- each kind of request
 

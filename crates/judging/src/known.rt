@@ -1,5 +1,5 @@
 // Judging by what is known: the numbers of the rules, each for a request whose parties are declared, by sets that say what its person did
-// and what was done on its folder. Judge, put and run share these functions; they differ in how they come to know the sets.
+// and what was done on its folder. Judge and put of one request share these functions; a run that keeps has its own (crate keeping).
 ghost use mathlib.Core.Path.{_≡_};
 ghost use mathlib.Core.Bool.{true, cond};
 ghost use Rattle.bits.specs.Bits.{bit};

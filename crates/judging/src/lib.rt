@@ -1,7 +1,7 @@
 // Judging one request alone (document 01, "Requests and calls"), on tables that a load gives, a history of 18,944 bytes and 128 bytes of
 // levels: the checks 12 to 17, and 21 in the place of 15. Of the past only that is gathered which a rule in force asks about: for the wall
-// the folders of the request's class, for roles the rights that the person used, for the pipeline the steps on the folder; and nothing once
-// a rule has refused.
+// the folders of the request's class, for roles the rights that the person used, until no role holds them, for the pipeline the steps on the
+// folder; and nothing once a rule has refused.
 ghost use mathlib.Core.Path.{_≡_};
 ghost use mathlib.Core.Bool.{true, cond};
 ghost use Prim.Native.Nat.{_%_};
@@ -46,18 +46,18 @@ fn role_holds(roles: &[u64; 32], accesses: u64, steps: u16, starts: bool, right:
     ensures { λ r. ⌜ r ≡ rolesIn (now (roles .entry)) (withBit (rightsWith accesses steps starts) (right % 64)) ⌝ }
 {
     let used = past::rights_with(accesses, steps, starts);
-    rules::covering_role(roles, bits::with_bit64(used, right), 0) < 32
+    rights::some_role_holds(roles, used, right)
 }
 
-// Whether roles permit person s a new right. The steps that the person applied are looked for only if the answer is not the same with none
-// of them and with all 16.
+// Whether roles permit person s a new right. The rights of reads and writes are gathered only until no role holds them, and the steps that
+// the person applied are looked for only if the answer is not the same with none of them and with all 16.
 fn roles_permit(t: Tables, roles: &[u64; 32], h: &[u8], s: usize, right: usize) -> bool
     requires { ⌜
         (length (now h) ≡ historyBytes) × (given t ≡ true) × (personDeclared t s ≡ true) × HasRoles t (now roles)
         ⌝ }
     ensures { λ r. ⌜ RolesPermit t (setOf (now (h .entry))) s right r ⌝ }
 {
-    let accesses = rights::rights_of_accesses(t, h, s);
+    let accesses = rights::rights_of_accesses(t, roles, h, s, right);
     let starts = past::has_started(h, s, past::persons(t));
     if !role_holds(roles, accesses, 0, starts, right) {
         return false;

@@ -3,7 +3,7 @@
 use Prim.Native.Nat.{ℕ, _+_, _*_, _%_, _<_}
 use native.Mathlib.Nat.{one-mul, zero-mul, mod-eq-of-lt}
 use native.Mathlib.Omega.{arith}
-use mathlib.Core.Path.{_≡_, refl, sym, ap, ap₂, _∙_}
+use mathlib.Core.Path.{_≡_, refl, ap₂, _∙_}
 use mathlib.Core.Logic.{⊎-elim}
 use mathlib.Core.Bool.{Bool, true, false, cond, not, _&&_, _||_}
 use lib.Dec.{eqb, ltb}
@@ -13,7 +13,7 @@ use borrow.Author.Tests.{eqb-true, ltb-true, ltb-false}
 use Rattle.bits.specs.Bits.{bit}
 use Rattle.bits.specs.Bounded.{allBelow, lowestBelow}
 use Rattle.bits.proofs.Booleans.{and-left, and-right, or-right, decide, false-elim}
-use Rattle.bits.proofs.BitLaws.{bit-or, bit-and, bit-zero, bit-pow}
+use Rattle.bits.proofs.BitLaws.{bit-or, bit-pow}
 use Rattle.bits.proofs.LowestBit.{below-lowest}
 use Rattle.bits.proofs.Bounds.{all-at}
 use Rattle.keeping.specs.Failing.{Failing, firstFailing, othersOf, numberAt, grantAt}
@@ -142,28 +142,3 @@ granted-at n l =
     same true false e = absurd (false-elim false refl e)
     same false true e = absurd (false-elim false refl e)
     same false false e = refl
-
--- ---- a mask with none of some rules
-
-pub not-among : (mask some k : ℕ) → bitAnd mask some ≡ 0 → bit some k ≡ true → bit mask k ≡ false
-not-among mask some k none set =
-    ⊎-elim
-    (λ on.
-    absurd
-    (false-elim (bit 0 k) (bit-zero k) (ap (λ (n : ℕ). bit n k) (sym none) ∙ bit-and mask some k ∙ ap₂ _&&_ on set)))
-    (λ e. e)
-    (decide (bit mask k))
-
-pub no-rights-no-steps : (mask : ℕ) → bitAnd mask 12 ≡ 0 → (bit mask 2 ≡ false) × (bit mask 3 ≡ false)
-unfolding bit
-no-rights-no-steps mask none = (not-among mask 12 2 none refl, not-among mask 12 3 none refl)
-
-pub levels-only : (mask : ℕ) → bitAnd mask 13 ≡ 0 → (bit mask 0 ≡ false) × (bit mask 2 ≡ false) × (bit mask 3 ≡ false)
-unfolding bit
-levels-only mask none = (not-among mask 13 0 none refl, not-among mask 13 2 none refl, not-among mask 13 3 none refl)
-
--- the bits of the three rules where only the wall may fail
-pub wall-alone : (b : Bool) {n : ℕ} → n ≡ cond b 2 0 → n ≡ othersOf b false false
-unfolding othersOf
-wall-alone true e = e
-wall-alone false e = e

@@ -1,32 +1,30 @@
--- Puts under fewer rules: a rule that is not in force fails nothing, and what is kept for it stays as it was.
-use Prim.Native.Nat.{ℕ, _%_}
-use mathlib.Core.Path.{_≡_}
+-- Puts under fewer rules. Where the mask has none of some rules, none of them is in force, since its bit would be in both. Where the roles
+-- are not in force they set no bit, so the bits of the three rules are those of the wall and of the pipeline.
+use Prim.Native.Nat.{ℕ, _/_, _%_, _^_}
+use mathlib.Core.Path.{_≡_, sym, ap, ap₂, _∙_}
+use mathlib.Core.Logic.{⊎-elim}
 use mathlib.Core.Bool.{Bool, false, cond, _&&_}
-use mathlib.Core.List.{List}
-use lib.ListN.{getD, set}
-use Rattle.bits.specs.Bits.{bit, withBit}
-use Rattle.policy.specs.Tables.{wallRule, rolesRule, pipelineRule}
-use Rattle.keeping.specs.declared.kinds.Placed.{Placed}
+use lib.Bits.{bitAnd, bitOr, or-zero-r}
+use borrow.Author.Tests.{eq-eqb}
+use Rattle.bits.specs.Bits.{bit}
+use Rattle.bits.proofs.Booleans.{decide, false-elim}
+use Rattle.bits.proofs.BitLaws.{bit-and, bit-zero}
+use Rattle.policy.specs.Tables.{rolesRule}
 use Rattle.keeping.specs.Failing.{othersOf}
-use Rattle.keeping.specs.Keeping.{Added, sets}
-use Rattle.keeping.proofs.FailingLaws.{wall-alone}
-use Rattle.keeping.proofs.UpdateLaws.{either-way}
 
-module _ (mask : ℕ) (roles : bit mask rolesRule ≡ false) (pipeline : bit mask pipelineRule ≡ false) where
-  pub others-wall : (a b c : Bool) {w : ℕ} → w ≡ cond a 2 0 → w ≡ othersOf a (bit mask rolesRule && b) (bit mask pipelineRule && c)
-  others-wall a b c e = rw (roles, pipeline) (wall-alone a e)
+-- a mask with none of some rules, of which rule k is one
+pub not-among : (mask some k : ℕ) → bitAnd mask some ≡ 0 → some / 2 ^ k % 2 ≡ 1 → bit mask k ≡ false
+unfolding bit
+not-among mask some k none set =
+    ⊎-elim
+    (λ on.
+    absurd
+    (false-elim (bit 0 k) (bit-zero k)
+    (ap (λ (n : ℕ). bit n k) (sym none) ∙ bit-and mask some k ∙ ap₂ _&&_ on (eq-eqb _ 1 set))))
+    (λ e. e)
+    (decide (bit mask k))
 
-  pub added-wall : (g c b : Bool) (steps : List ℕ) (at : Placed) (firm holders : ℕ) (firms holding done next : List ℕ) {firms′ : List ℕ}
-      → firms′
-      ≡ cond (bit mask wallRule)
-      (set firms (at .person)
-      (cond (g && c) (withBit (getD firms (at .person) 0) (firm % 64)) (getD firms (at .person) 0)))
-      firms
-      → Added g c b mask steps at firm holders (sets firms holding done next) (sets firms′ holding done next)
-  added-wall g c b steps at firm holders firms holding done next e =
-      record {
-        firms = e;
-        holding = rw roles;
-        done = rw pipeline (either-way b _);
-        next = rw pipeline (either-way b _);
-      }
+pub without-roles : (mask : ℕ) → bit mask rolesRule ≡ false → (a b c : Bool) {wall pipeline : ℕ} → wall ≡ cond a 2 0
+    → pipeline ≡ cond c 32 0 → bitOr wall pipeline ≡ othersOf a (bit mask rolesRule && b) c
+unfolding othersOf
+without-roles mask roles a b c e f = rw roles (ap₂ bitOr (e ∙ sym (or-zero-r (cond a 2 0))) f)

@@ -72,8 +72,8 @@ pub placed-at : (r : Parsed) {x : Placed} → 15 < r .kind → r .kind < 20 → 
 placed-at r low high small e = rw e (placed-as (r .kind) (r .person) (r .target) (r .step) low high small)
 
 -- what is kept, part by part
-parts : {firms firms′ holding holding′ done done′ next next′ sets sets′ : List ℕ} → firms ≡ firms′ → holding ≡ holding′ → done ≡ done′
-    → next ≡ next′ → sets ≡ sets′ → kept firms holding done next sets ≡ kept firms′ holding′ done′ next′ sets′
+parts : {firms firms′ holding holding′ done done′ next next′ sets sets′ : List ℕ} → firms ≡ firms′ → holding ≡ holding′
+    → done ≡ done′ → next ≡ next′ → sets ≡ sets′ → kept firms holding done next sets ≡ kept firms′ holding′ done′ next′ sets′
 parts a b c d e = rw (a, b, c, d, e)
 
 module _ (t : Tables) (h l : List ℕ) (size : length h ≡ historyBytes) (mask kind s o p : ℕ) (low : 15 < kind) (high : kind < 20)

@@ -93,3 +93,48 @@ pub fn put_by_wall(
     updates::keep_firm(mask, firms, s, firm, counts, all);
     numbers[first]
 }
+
+// Puts a request where neither the wall nor the roles are in force.
+pub fn put_by_steps(
+    mask: u8,
+    steps: &[u16; 16],
+    rows: &[u64; 64],
+    numbers: &[u8; 8],
+    grants: &[u64; 8],
+    done: &mut [u64; 128],
+    next: &mut [u64; 128],
+    sets: &mut [u64; 192],
+    h: &mut [u8],
+    r: Parsed,
+) -> u8
+    requires { ⌜
+        (now rows ≡ kindRows) × (now numbers ≡ numberAt) × (now grants ≡ grantAt) × (15 < r .kind) × (r .kind < 20)
+        × (length (now h) ≡ historyBytes) × (length (now sets) ≡ 192) × (length (now done) ≡ 128) × (length (now next) ≡ 128)
+        × (bitAnd mask 5 ≡ 0)
+        ⌝ }
+    ensures { λ n. ⌜
+        ((holders firms holding : List ℕ) (e : Entry) (class : ℕ)
+        → Puts mask holders (now (steps .entry)) e class (now (h .entry))
+        (kept firms holding (now (done .entry)) (now (next .entry)) (now (sets .entry))) r n (now (h .exit))
+        (kept firms holding (now (done .exit)) (now (next .exit)) (now (sets .exit))))
+        ⌝ }
+{
+    let kind = r.kind;
+    let at = kinds::place(rows, r);
+    let s = at.person;
+    let target = at.set;
+    let o = at.place;
+    let needed = sets[target];
+    let own = sets[s];
+    let unknown = checks::unknown_check(at.outside, needed, own);
+    let asks = kinds::row(rows, kind, kinds::CHECKS);
+    let level = checks::level_check(mask, needed, own, asks);
+    let step = kinds::row(rows, kind, kinds::STEP);
+    let pipeline = checks::pipeline_check(mask, next[o], at.step, step);
+    let first = checks::first_check(unknown, level, pipeline);
+    let all = grants[first];
+    updates::set_bit(h, at.index, all);
+    sets[s] = updates::narrowed(own, needed, all & kinds::row(rows, kind, kinds::LOWERS));
+    updates::keep_step(mask, steps, done, next, o, at.step, all & step);
+    numbers[first]
+}

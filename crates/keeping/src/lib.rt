@@ -243,10 +243,13 @@ fn put_by_all(
     numbers[first]
 }
 
-// The rules that ask what persons did or what was done on folders; and those of them that ask for rights or steps.
+// The rules that ask what persons did or what was done on folders; those of them that ask for rights or steps; and those that ask for
+// firms or rights.
 const ASKING: u8 = 13;
 
 const BEYOND_WALL: u8 = 12;
+
+const BEYOND_STEPS: u8 = 5;
 
 // Puts a request of one of the four kinds, and asks only for what the rules in force ask about.
 pub fn put(
@@ -292,6 +295,9 @@ pub fn put(
             h,
             r,
         );
+    }
+    if mask & BEYOND_STEPS == 0 {
+        return fewer::put_by_steps(mask, steps, rows, numbers, grants, done, next, sets, h, r);
     }
     put_by_all(
         mask,

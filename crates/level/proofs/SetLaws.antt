@@ -123,12 +123,6 @@ read-back a mark {set} {lowest} l is found built =
     let compartments : bitAnd (set / 2 ^ 15) (2 ^ 12 - 1) % 4096 ≡ compartmentsOf 12 a = omega (arith, above, compartments-lt 12 a) in
     built ∙ ap₂ (levelOf 12) ranks compartments ∙ level-whole 12 a
 
--- a set has 28 bits
-pub set-lt : (a : ℕ) (mark : Bool) → a < 65536 → levelSet a mark < 2 ^ 28
-unfolding levelSet
-set-lt a true l = omega (arith, unary-lt a l, compartments-lt 12 a)
-set-lt a false l = omega (arith, unary-lt a l, compartments-lt 12 a)
-
 -- ---- two sets
 
 marks-and : (m n : Bool) → bitAnd (cond m 1 0) (cond n 1 0) ≡ cond (m && n) 1 0

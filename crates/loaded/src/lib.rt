@@ -12,7 +12,7 @@ use policy::Tables;
 use policy::numbers;
 use running::alone;
 
-// A run of fewer requests puts each alone: gathering for all persons costs more than that.
+// A run of fewer requests puts each alone, and gathers nothing for all persons.
 const FEW: usize = 8;
 
 // The checks on the lengths of a history and of levels: 0 where they pass.
@@ -96,11 +96,19 @@ pub fn run(t: Tables, h: &mut [u8], levels: &mut [u8], requests: &[u8], answers:
     if number != numbers::GRANTED {
         return no_run(number);
     }
-    let due = running::answers_due(requests);
-    if answers.len() < due {
+    let extent = running::extent_of(requests);
+    if answers.len() < extent.due {
         return no_run(numbers::TOO_FEW_ANSWERS);
     }
-    let counts = running::run(t, h, levels, requests, answers, due < FEW);
+    let counts = running::run(
+        t,
+        h,
+        levels,
+        requests,
+        answers,
+        extent.end,
+        extent.due < FEW,
+    );
     Ran {
         number: numbers::GRANTED,
         granted: counts.granted,

@@ -1,6 +1,6 @@
--- What a pass over the folders has gathered after n of them: the rights used by reads and writes, the firms opened and the firms that the
--- wall counts on the folders below n. A folder that the person did not access changes nothing, any other adds its own, and after all
--- folders the whole, with the rights of the steps applied and of the starts, is what the person did.
+-- What a pass over the folders has gathered after n of them: the rights used by reads and writes and the firms opened on the folders below
+-- n. A folder that the person did not access changes nothing, any other adds its own, and after all folders the whole, with the rights of
+-- the steps applied and of the starts, is what the person did.
 use Prim.Native.Nat.{ℕ, _+_, _*_, _^_, _≤_, _<_}
 use native.Mathlib.Omega.{arith}
 use mathlib.Core.Path.{_≡_, refl, sym, ap, ap₂, _∙_}
@@ -16,10 +16,10 @@ use Rattle.bits.proofs.Booleans.{and-left, or-cases, or-left, or-right, or-swap
 use Rattle.bits.proofs.Bounds.{any-more, any-some, some-any, any-ext}
 use Rattle.bits.proofs.Masks.{mask-lt, bit-mask-below, mask-of-bits, mask-ext, mask-or, mask-with, mask-shifted}
 use Rattle.policy.specs.declared.Tables.{Tables}
-use Rattle.policy.specs.Tables.{folderAt, personDeclared, isPublic}
+use Rattle.policy.specs.Tables.{folderAt, personDeclared}
 use Rattle.policy.specs.Rulebook.{given}
 use Rattle.policy.specs.Request.{Request, read, write, start, step, setOf}
-use Rattle.policy.specs.Rules.{right, someRequest, firmOfSome, did, accessed, opened, counts, counted, used}
+use Rattle.policy.specs.Rules.{right, someRequest, firmOfSome, did, accessed, opened, used}
 use Rattle.past.specs.declared.Past.{Past}
 use Rattle.past.specs.Gathering.{appliedOn, appliedAt}
 use Rattle.past.specs.Past.{usedOn, firmOn, firmsBelow, pastBelow, pastOf}
@@ -51,10 +51,9 @@ use Rattle.past.proofs.Recorded.{
   touched-word,
 }
 
-same-past : {rights rights′ firms firms′ counted counted′ : ℕ} → rights ≡ rights′ → firms ≡ firms′ → counted ≡ counted′
-    → _≡_ {A = Past} (record { rights = rights; firms = firms; counted = counted })
-    (record { rights = rights′; firms = firms′; counted = counted′ })
-same-past r f c = rw (r, f, c)
+same-past : {rights rights′ firms firms′ : ℕ} → rights ≡ rights′ → firms ≡ firms′
+    → _≡_ {A = Past} (record { rights = rights; firms = firms }) (record { rights = rights′; firms = firms′ })
+same-past r f = rw (r, f)
 
 -- ---- the firms of some folders, one folder more
 
@@ -80,9 +79,9 @@ module _ (t : Tables) (p : ℕ → Bool) where
 -- ---- one folder more, over a set of requests
 
 module _ (t : Tables) (H : Request → Bool) (s : ℕ) where
-  pub past-start : record { rights = 0; firms = 0; counted = 0 } ≡ pastBelow t H s 0
+  pub past-start : record { rights = 0; firms = 0 } ≡ pastBelow t H s 0
   unfolding pastBelow
-  past-start = same-past (join-none 64 (usedOn t H s)) (firms-start t (accessed t H s)) (firms-start t (counts t H s))
+  past-start = same-past (join-none 64 (usedOn t H s)) (firms-start t (accessed t H s))
 
   -- what a folder that the person did not access says: no right, no firm
   unused : (x o : ℕ) → accessed t H s o ≡ false → usedOn t H s x o ≡ false
@@ -95,21 +94,13 @@ module _ (t : Tables) (H : Request → Bool) (s : ℕ) where
       (λ w. or-right (did t H (read s o)) _ (and-left (did t H (write s o)) _ w))
       (or-cases (did t H (read s o) && eqb (right t (read s o)) x) _ u))))
 
-  uncounted : (o : ℕ) → accessed t H s o ≡ false → counts t H s o ≡ false
-  unfolding counts
-  uncounted o n = rw n
-
   -- a folder that the person did not access changes nothing
   untouched : (n : ℕ) → accessed t H s n ≡ false → pastBelow t H s n ≡ pastBelow t H s (n + 1)
   unfolding pastBelow
   untouched n none =
       same-past
       (mask-ext 64 _ _ (λ x l. sym (any-more n (usedOn t H s x) ∙ ap (λ (b : Bool). b || anyBelow n (usedOn t H s x)) (unused x n none))))
-      (firms-same t (accessed t H s) n none) (firms-same t (counts t H s) n (uncounted n none))
-
-  counts-here : (o : ℕ) → accessed t H s o ≡ true → counts t H s o ≡ not (isPublic t o)
-  unfolding counts
-  counts-here o a = rw a
+      (firms-same t (accessed t H s) n none)
 
   -- the rights of a read and a write
   pub rights-more : (n : ℕ) {wasRead wasWritten : Bool} → folderAt t n .kind < 16 → did t H (read s n) ≡ wasRead
@@ -128,15 +119,13 @@ module _ (t : Tables) (H : Request → Bool) (s : ℕ) where
       ∙ sym (or-assoc (wasRead && eqb kind x) (wasWritten && eqb (16 + kind) x) (before x))
       ∙ rw (← r, ← w) (sym (any-more n (usedOn t H s x))))
 
-  -- a declared folder that the person accessed adds its rights and its firm, which the wall counts if the folder is not public
+  -- a declared folder that the person accessed adds its rights and its firm
   touched : (n : ℕ) {wasRead wasWritten : Bool} → folderAt t n .declared ≡ true → accessed t H s n ≡ true → folderAt t n .firm < 64
       → folderAt t n .kind < 16 → did t H (read s n) ≡ wasRead → did t H (write s n) ≡ wasWritten
       → pastWith (folderAt t n) wasRead wasWritten (pastBelow t H s n) ≡ pastBelow t H s (n + 1)
   unfolding pastBelow pastWith
   touched n d some firm kind r w =
-      rw d
-      (same-past (rights-more n kind r w) (firms-more t (accessed t H s) n true some firm)
-      (firms-more t (counts t H s) n (not (isPublic t n)) (counts-here n some) firm))
+      rw d (same-past (rights-more n kind r w) (firms-more t (accessed t H s) n true some firm))
 
 -- ---- the folders, over a history's bytes
 
@@ -250,7 +239,7 @@ module _ (t : Tables) (h : List ℕ) (s : ℕ) (person : personDeclared t s ≡ 
   -- what person s did on all folders, with the steps and the starts, is all that the person did
   pub past-whole : {steps persons : ℕ} → persons ≡ maskBelow 64 (personDeclared t) → steps ≡ maskBelow 16 (appliedAt t h s)
       → (let before = pastBelow t (setOf h) s 128 in
-      record { rights = rightsWith (before .rights) steps (started persons h s); firms = before .firms; counted = before .counted })
+      record { rights = rightsWith (before .rights) steps (started persons h s); firms = before .firms })
       ≡ pastOf t (setOf h) s
-  unfolding pastBelow firmsBelow pastOf firmOfSome opened counted firmOn
-  past-whole known applied = same-past (rights-whole known applied) refl refl
+  unfolding pastBelow firmsBelow pastOf firmOfSome opened firmOn
+  past-whole known applied = same-past (rights-whole known applied) refl

@@ -8,5 +8,6 @@ pub mod VisitLaws
 pub mod GatheringLaws
 pub mod Gathered
 pub mod AccessRights
+pub mod FoundLaws
 pub mod PastLaws
 pub mod WallLaws

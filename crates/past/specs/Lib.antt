@@ -5,3 +5,4 @@ pub mod Levels
 pub mod Gathering
 pub mod Visits
 pub mod Wall
+pub mod Found

@@ -1,4 +1,4 @@
--- What a person did: the set of the rights used, the set of the firms opened and the set of the firms that the wall counts.
+-- What a person did: the set of the rights used and the set of the firms opened.
 use Prim.Native.Nat.{ℕ}
 use mathlib.Core.Bool.{Bool, _&&_, _||_}
 use lib.Dec.{eqb}
@@ -7,7 +7,7 @@ use Rattle.policy.specs.declared.Tables.{Tables}
 use Rattle.bits.specs.Bounded.{anyBelow}
 use Rattle.policy.specs.Tables.{folderAt}
 use Rattle.policy.specs.Request.{Request, read, write}
-use Rattle.policy.specs.Rules.{right, did, accessed, counts, used, opened, counted}
+use Rattle.policy.specs.Rules.{right, did, accessed, used, opened}
 use Rattle.past.specs.declared.Past.{Past}
 
 -- what person s did, over the set H of the requests granted so far
@@ -16,7 +16,6 @@ pastOf t H s =
     record {
       rights = maskBelow 64 (used t H s);
       firms = maskBelow 64 (opened t H s);
-      counted = maskBelow 64 (counted t H s);
     }
 
 -- person s used right x by a read of folder o or a write in it
@@ -41,5 +40,4 @@ pastBelow t H s n =
     record {
       rights = rightsBelow t H s n;
       firms = firmsBelow t (accessed t H s) n;
-      counted = firmsBelow t (counts t H s) n;
     }

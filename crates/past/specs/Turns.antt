@@ -62,7 +62,6 @@ pastWith e wasRead wasWritten before =
     (record {
       rights = withBitIf wasWritten (withBitIf wasRead (before .rights) (e .kind)) (16 + e .kind);
       firms = withBit (before .firms) (e .firm);
-      counted = withBitIf (not (e .public)) (before .counted) (e .firm);
     })
     before
 

@@ -1,4 +1,4 @@
-// What a person did: the rights used, the firms opened and the firms that the wall counts. The pass visits the folders that the person
+// What a person did: the rights used and the firms opened. The pass visits the folders that the person
 // read, wrote in or stepped on, and no others. `steps` finds the persons who stepped on each folder, and the folders on which one person
 // did; `applied` finds the steps that a person applied. `wall` and `rights` find what the wall and the roles ask about for one request
 // alone, and the current level is apart, in `levels`. Each public function is called for a declared person, over tables that a load gives
@@ -33,12 +33,10 @@ pub struct Folders {
     pub high: u64,
 }
 
-// The set of the rights used, the set of the firms opened and the set of the firms that the wall counts, which are those of the folders
-// accessed that are not public: bit k for number k.
+// The set of the rights used and the set of the firms opened: bit k for number k.
 pub struct Past {
     pub rights: u64,
     pub firms: u64,
-    pub counted: u64,
 }
 
 // The set of the declared persons.
@@ -70,7 +68,6 @@ fn past_with(folder: Folder, read: bool, wrote: bool, before: Past) -> Past
             16 + kind,
         ),
         firms: bits::with_bit64(before.firms, firm),
-        counted: bits::with_bit64_if(!folder.public, before.counted, firm),
     }
 }
 
@@ -127,7 +124,7 @@ pub fn rights_with(rights: u64, steps: u16, starts: bool) -> u64
 
 // What person s did, who stepped on these folders and applied these steps to declared folders, where `persons` are the declared persons:
 // the folders that the person read, wrote or stepped on, then the steps and the starts.
-pub fn past_of(t: Tables, h: &[u8], s: usize, persons: u64, stepped: Folders, applied: u16) -> Past
+fn past_of(t: Tables, h: &[u8], s: usize, persons: u64, stepped: Folders, applied: u16) -> Past
     requires { ⌜
         (length (now h) ≡ historyBytes) × (given t ≡ true) × (personDeclared t s ≡ true) × (persons ≡ maskBelow 64 (personDeclared t))
         × (stepped ≡ foldersOf (steppedAt (now h) s)) × (applied ≡ maskBelow 16 (appliedAt t (now h) s))
@@ -137,14 +134,12 @@ pub fn past_of(t: Tables, h: &[u8], s: usize, persons: u64, stepped: Folders, ap
     let none = Past {
         rights: 0,
         firms: 0,
-        counted: 0,
     };
     let low = past_over(t, h, s, 0, stepped.low, none);
     let past = past_over(t, h, s, 64, stepped.high, low);
     Past {
         rights: rights_with(past.rights, applied, has_started(h, s, persons)),
         firms: past.firms,
-        counted: past.counted,
     }
 }
 

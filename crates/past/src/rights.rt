@@ -1,12 +1,16 @@
-// The rights that one person used by reads and writes. The pass visits the folders that the person read or wrote in, and no others.
+// The rights that one person used by reads and writes. The pass visits the folders that the person read or wrote in, and no others, and
+// stops as soon as no role holds the rights found so far and the new right that is asked for.
 ghost use mathlib.Core.Path.{_≡_};
 ghost use mathlib.Core.Bool.{true};
 ghost use Prim.Native.Nat.{_+_, _%_, _≤_};
 ghost use lib.ListN.{length};
+ghost use Rattle.bits.specs.Bits.{withBit};
 ghost use Rattle.policy.specs.Tables.{personDeclared};
 ghost use Rattle.policy.specs.Rulebook.{given};
 ghost use Rattle.policy.specs.History.{historyBytes};
 ghost use Rattle.policy.specs.Request.{setOf};
+ghost use Rattle.rules.specs.Sets.{rolesIn};
+ghost use Rattle.past.specs.Found.{FoundOf};
 ghost use Rattle.past.specs.Past.{rightsBelow};
 ghost use Rattle.past.specs.Turns.{EntryInBounds, rightsAfter};
 use policy::Folder;
@@ -14,7 +18,7 @@ use policy::Tables;
 
 // The rights after a folder, whose entry is `folder` and which was read and written or not, if `before` are those before it: a declared
 // folder adds the rights of the read and the write.
-pub fn rights_after(folder: Folder, read: bool, wrote: bool, before: u64) -> u64
+fn rights_after(folder: Folder, read: bool, wrote: bool, before: u64) -> u64
     requires { ⌜ EntryInBounds folder ⌝ }
     ensures { λ r. ⌜ r ≡ rightsAfter folder read wrote before ⌝ }
 {
@@ -25,14 +29,30 @@ pub fn rights_after(folder: Folder, read: bool, wrote: bool, before: u64) -> u64
     bits::with_bit64_if(wrote, bits::with_bit64_if(read, before, kind), 16 + kind)
 }
 
+// Whether some role holds the rights and a new one.
+pub fn some_role_holds(roles: &[u64; 32], rights: u64, right: usize) -> bool
+    ensures { λ r. ⌜ r ≡ rolesIn (now (roles .entry)) (withBit rights (right % 64)) ⌝ }
+{
+    rules::lowest_role(roles, bits::with_bit64(rights, right)) < 32
+}
+
 // The rights that person s used by reads and writes of folders up to the last of the 64 from `first` on, if `before` are those of the
-// folders before them. Each turn takes the lowest folder out of the set of those that were read or written.
-fn rights_over(t: Tables, h: &[u8], s: usize, first: usize, before: u64) -> u64
+// folders before them; or, once no role holds all that was found and a new right, only this. Each turn takes the lowest folder out of the
+// set of those that were read or written. Only a turn that found a right asks for a role.
+fn rights_over(
+    t: Tables,
+    roles: &[u64; 32],
+    h: &[u8],
+    s: usize,
+    right: usize,
+    first: usize,
+    before: u64,
+) -> u64
     requires { ⌜
         (length (now h) ≡ historyBytes) × (given t ≡ true) × (personDeclared t s ≡ true) × (first % 8 ≡ 0) × (first + 64 ≤ 128)
         × (before ≡ rightsBelow t (setOf (now h)) s first)
         ⌝ }
-    ensures { λ r. ⌜ r ≡ rightsBelow t (setOf (now (h .entry))) s (first + 64) ⌝ }
+    ensures { λ r. ⌜ FoundOf (now (roles .entry)) (right % 64) (rightsBelow t (setOf (now (h .entry))) s (first + 64)) r ⌝ }
 {
     let read = history::word_at(h, 16 * s + (first >> 3));
     let wrote = history::word_at(h, 1024 + 16 * s + (first >> 3));
@@ -41,20 +61,29 @@ fn rights_over(t: Tables, h: &[u8], s: usize, first: usize, before: u64) -> u64
     while rest != 0 {
         let i = bits::lowest64(rest);
         let folder = t.folders[first + i];
-        rights = rights_after(folder, bits::bit64(read, i), bits::bit64(wrote, i), rights);
+        let more = rights_after(folder, bits::bit64(read, i), bits::bit64(wrote, i), rights);
+        if more != rights {
+            if !some_role_holds(roles, more, right) {
+                return more;
+            }
+        }
+        rights = more;
         rest = bits::without_lowest64(rest);
     }
     rights
 }
 
-// The rights that person s used by reads and writes.
-pub fn rights_of_accesses(t: Tables, h: &[u8], s: usize) -> u64
+// The rights that person s used by reads and writes; or, once no role holds all that was found and a new right, only this.
+pub fn rights_of_accesses(t: Tables, roles: &[u64; 32], h: &[u8], s: usize, right: usize) -> u64
     requires { ⌜ (length (now h) ≡ historyBytes) × (given t ≡ true) × (personDeclared t s ≡ true) ⌝ }
-    ensures { λ r. ⌜ r ≡ rightsBelow t (setOf (now (h .entry))) s 128 ⌝ }
+    ensures { λ r. ⌜ FoundOf (now (roles .entry)) (right % 64) (rightsBelow t (setOf (now (h .entry))) s 128) r ⌝ }
 {
     let mut rights: u64 = 0;
     for half in 0..2 {
-        rights = rights_over(t, h, s, 64 * half, rights);
+        if !some_role_holds(roles, rights, right) {
+            return rights;
+        }
+        rights = rights_over(t, roles, h, s, right, 64 * half, rights);
     }
     rights
 }

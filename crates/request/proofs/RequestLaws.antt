@@ -9,7 +9,7 @@ use mathlib.Core.List.{List, [], _∷_}
 use mathlib.Core.Option.{none, some}
 use lib.Dec.{eqb}
 use lib.ListN.{length, getD, drop}
-use borrow.Author.Tests.{eqb-true, eq-eqb, ne-eqb}
+use borrow.Author.Tests.{eqb-true, ne-eqb}
 use Rattle.bits.proofs.Booleans.{decide}
 use Rattle.policy.specs.Request.{Request, read, write, start, step, two, three, requestOf, recordLength}
 use Rattle.request.specs.Parsed.{accessBy, requestFor, nextAfter, nextRecord}
@@ -146,37 +146,8 @@ next-short (k ∷ a ∷ b ∷ []) h =
     three-bytes (eqb k 16) (eqb k 17) (eqb k 18) (eqb k 19) (read a b) (write a b) (start a b) refl refl refl
 next-short (k ∷ a ∷ b ∷ c ∷ rest) h = let z : ⊥ = omega arith in absurd z
 
-pub access-length : (writes : Bool) (s o : ℕ) → recordLength (accessBy writes s o) ≡ 3
-unfolding accessBy recordLength
-access-length true s o = refl
-access-length false s o = refl
-
-module _ (l : List ℕ) (long : 4 ≤ length l) where
-  -- the next record, by the request that stands at the front
-  by-request : (r : Request) (n : ℕ) → requestOf l ≡ some r → recordLength r ≡ n → nextRecord l ≡ n
-  unfolding nextRecord nextAfter
-  by-request r n e m = rw e m
-
-  pub next-three : 16 ≤ getD l 0 0 → getD l 0 0 ≤ 18 → nextRecord l ≡ 3
-  unfolding recordLength
-  next-three low high =
-      ⊎-elim
-      (λ e. by-request (start (getD l 1 0) (getD l 2 0)) 3 (is-start l (omega arith) e) refl)
-      (λ below. by-request _ 3 (is-access l (omega arith) low (omega arith)) (access-length _ _ _))
-      (eq-or-lt-of-le high)
-
-  pub next-step : getD l 0 0 ≡ 19 → nextRecord l ≡ 4
-  unfolding recordLength
-  next-step e = by-request (step (getD l 1 0) (getD l 2 0) (getD l 3 0)) 4 (is-step l (omega arith) e ∙ whole-step l long) refl
-
-  pub next-unknown : getD l 0 0 ≢ 16 → getD l 0 0 ≢ 17 → getD l 0 0 ≢ 18 → getD l 0 0 ≢ 19 → nextRecord l ≡ length l
-  unfolding nextRecord nextAfter
-  next-unknown p q r s = rw (is-unknown l (omega arith) p q r s)
-
-  -- the next record after one of a known kind
-  pub next-known : (more : ℕ) → 16 ≤ getD l 0 0 → getD l 0 0 ≤ 19 → more ≡ cond (eqb (getD l 0 0) 19) 1 0 → nextRecord l ≡ 3 + more
-  next-known more low high e =
-      ⊎-elim
-      (λ (k : getD l 0 0 ≡ 19). next-step k ∙ rw (e, eq-eqb (getD l 0 0) 19 k))
-      (λ below. next-three low (omega arith) ∙ rw (e, ne-eqb (getD l 0 0) 19 (omega arith)))
-      (eq-or-lt-of-le high)
+-- an unknown record ends a run
+pub next-unknown : (l : List ℕ) → 3 ≤ length l → getD l 0 0 ≢ 16 → getD l 0 0 ≢ 17 → getD l 0 0 ≢ 18 → getD l 0 0 ≢ 19
+    → nextRecord l ≡ length l
+unfolding nextRecord nextAfter
+next-unknown l long p q r s = rw (is-unknown l long p q r s)

@@ -32,6 +32,15 @@ nextAfter (some r) left = recordLength r
 unfoldable pub nextRecord : List ℕ → ℕ
 nextRecord bytes = nextAfter (requestOf bytes) (length bytes)
 
+-- the length of a request's record; 0 of none
+unfoldable pub lengthOf : Option Request → ℕ
+lengthOf none = 0
+lengthOf (some r) = recordLength r
+
+-- the length of the record at the front of the bytes; 0 where it is unknown or cut
+unfoldable pub wholeLength : List ℕ → ℕ
+wholeLength bytes = lengthOf (requestOf bytes)
+
 -- what was parsed from the bytes
 pub record ParsedFrom (bytes : List ℕ) (r : Parsed) : Type 0 where
   pub request : asRequest r ≡ requestOf bytes

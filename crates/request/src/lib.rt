@@ -6,7 +6,7 @@ ghost use Prim.Native.Nat.{_≤_, _<_};
 ghost use lib.Dec.{eqb};
 ghost use lib.ListN.{length};
 ghost use Rattle.policy.specs.Request.{start, step, index};
-ghost use Rattle.request.specs.Parsed.{accessBy, asRequest, nextRecord, ParsedFrom};
+ghost use Rattle.request.specs.Parsed.{accessBy, asRequest, wholeLength, ParsedFrom};
 
 // A request as its record has it: the kind, the person, the folder or the second person, and the step, which is passed over unless the kind
 // is 19; and how far on the next record stands. Kind 0 stands for none: the kind is unknown or the record is cut.
@@ -91,21 +91,36 @@ pub fn parse(bytes: &[u8]) -> Parsed
     }
 }
 
-// How far on the next record stands: by the length of this one, or by all the bytes left where it is unknown or cut, since it ends a run.
-// Fewer than four bytes are one record or none, so all of them are passed.
-pub fn next_record(bytes: &[u8]) -> usize
-    ensures { λ r. ⌜ r ≡ nextRecord (now (bytes .entry)) ⌝ }
+// The request whose whole record stands at the front of the bytes: no test is left.
+pub fn parse_whole(bytes: &[u8]) -> Parsed
+    requires { ⌜ 0 < wholeLength (now bytes) ⌝ }
+    ensures { λ r. ⌜ ParsedFrom (now (bytes .entry)) r × (15 < r .kind) × (r .kind < 20) ⌝ }
+{
+    let kind = bytes[0];
+    let extra = longer(kind);
+    Parsed {
+        kind: kind,
+        person: bytes[1],
+        target: bytes[2 + extra],
+        step: bytes[2],
+        next: 3 + extra,
+    }
+}
+
+// The length of the record at the front of the bytes; 0 where it is unknown or cut.
+pub fn whole_length(bytes: &[u8]) -> usize
+    ensures { λ r. ⌜ r ≡ wholeLength (now (bytes .entry)) ⌝ }
 {
     let left = bytes.len();
-    if left < 4 {
-        return left;
+    if left < 3 {
+        return 0;
     }
     let kind = bytes[0];
     match kind {
         16..=18 => 3,
-        19 => 4,
-        0..=15 => left,
-        20..=255 => left,
+        19 => if left < 4 { 0 } else { 4 },
+        0..=15 => 0,
+        20..=255 => 0,
     }
 }
 

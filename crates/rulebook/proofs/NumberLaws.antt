@@ -98,7 +98,8 @@ module _ (t : Tables) (r : Reading) where
       by false e = refl
 
   -- the kinds that ask nothing of the tables
-  pub other-number : (k : ℕ) → r .kind ≡ k → (k ≡ 2 → ⊥) → (k ≡ 3 → ⊥) → (k ≡ 4 → ⊥) → (k ≡ 5 → ⊥) → (k ≡ 6 → ⊥) → (k ≡ 7 → ⊥)
+  pub other-number : (k : ℕ) → r .kind ≡ k → (k ≡ 2 → ⊥) → (k ≡ 3 → ⊥) → (k ≡ 4 → ⊥)
+      → (k ≡ 5 → ⊥) → (k ≡ 6 → ⊥) → (k ≡ 7 → ⊥)
       → r .number ≡ numberOf t r
   unfolding tableChecks declaredBefore firmStands folderStands entersCreate ladder
   other-number zero e n2 n3 n4 n5 n6 n7 = free (is-end r e) refl

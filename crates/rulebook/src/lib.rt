@@ -37,7 +37,8 @@ fn finish(at: usize, t: Tables) -> Loaded
 }
 
 // Loads a book: its tables, or those of the empty book with the number and the offset of what refuses it. `own` is the number that a
-// record declares or marks, and `named` the firm or the step that it names besides.
+// record declares or marks, and `named` the firm or the step that it names besides. What a record declares is stored before its number is
+// looked at, so that a record's kind is told apart once: of a refused book these tables are not handed back.
 pub fn load(book: &[u8]) -> Loaded
     ensures { λ r. ⌜ r ≡ loadBook (now (book .entry)) ⌝ }
 {
@@ -59,11 +60,7 @@ pub fn load(book: &[u8]) -> Loaded
             0 => number = steps::end_number(number, &t.steps),
             1 | 8..=255 => {}
         }
-        if number != numbers::GRANTED {
-            return refuse(number, at);
-        }
         match kind {
-            0 => return finish(at, t),
             1 => t.mask = r.first,
             2 => t.firms[own] = entries::new_firm(r.second),
             3 => t.persons[own] = entries::new_person(r.level),
@@ -71,7 +68,13 @@ pub fn load(book: &[u8]) -> Loaded
             5 => t.roles[own] = entries::new_role(r.rights),
             6 => t.steps[own] = bits::with_bit16(t.steps[own], named),
             7 => t.folders[own] = entries::made_public(t.folders[own]),
-            8..=255 => return refuse(numbers::UNKNOWN_KIND, at),
+            0 | 8..=255 => {}
+        }
+        if number != numbers::GRANTED {
+            return refuse(number, at);
+        }
+        if kind == 0 {
+            return finish(at, t);
         }
         at = r.next;
     }

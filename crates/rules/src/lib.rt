@@ -5,8 +5,7 @@ ghost use mathlib.Core.Bool.{true};
 ghost use Prim.Native.Nat.{_≤_};
 ghost use lib.Dec.{ltb};
 ghost use Rattle.policy.specs.Rulebook.{given};
-ghost use Rattle.rules.specs.Sets.{HasClasses, HasRoles, wallIn, covers as coversAll, rolesIn};
-use policy::Folder;
+ghost use Rattle.rules.specs.Sets.{HasClasses, HasRoles, covers as coversAll, rolesIn};
 use policy::Tables;
 
 // The set of the firms of each class.
@@ -20,20 +19,6 @@ pub fn classes(t: Tables) -> [u64; 32]
         sets[class] = bits::with_bit64(sets[class], f);
     }
     sets
-}
-
-// Whether the wall permits a person, for whom it counts these firms, an access to a folder, where `class` are the firms of the folder's
-// class. A public folder is passed.
-pub fn wall_permits(folder: Folder, counted: u64, class: u64) -> bool
-    ensures { λ r. ⌜ r ≡ wallIn folder counted class ⌝ }
-{
-    if folder.public {
-        return true;
-    }
-    if counted & class == 0 {
-        return true;
-    }
-    bits::bit64(counted, bits::wide(folder.firm))
 }
 
 // The rights of each role.
@@ -55,7 +40,7 @@ fn covers(rights: u64, wanted: u64) -> bool
 }
 
 // The lowest role that holds all the rights wanted; 32 where none does.
-fn lowest_role(roles: &[u64; 32], wanted: u64) -> usize
+pub fn lowest_role(roles: &[u64; 32], wanted: u64) -> usize
     ensures { λ r. ⌜ (r ≤ 32) × (ltb r 32 ≡ rolesIn (now (roles .entry)) wanted) ⌝ }
 {
     for k in 0..32 {
@@ -64,15 +49,4 @@ fn lowest_role(roles: &[u64; 32], wanted: u64) -> usize
         }
     }
     32
-}
-
-// A role that holds all the rights wanted; 32 where none does. The role that is likely to is looked at first.
-pub fn covering_role(roles: &[u64; 32], wanted: u64, likely: usize) -> usize
-    ensures { λ r. ⌜ (r ≤ 32) × (ltb r 32 ≡ rolesIn (now (roles .entry)) wanted) ⌝ }
-{
-    let k = likely % 32;
-    if covers(roles[k], wanted) {
-        return k;
-    }
-    lowest_role(roles, wanted)
 }

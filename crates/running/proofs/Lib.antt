@@ -1,4 +1,5 @@
 pub mod Records
+pub mod WholeRecords
 pub mod Turns
 pub mod ClassOf
 pub mod PutAlone

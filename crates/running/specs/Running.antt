@@ -1,5 +1,5 @@
 -- What the functions of this crate give: one turn of a run, and a whole run.
-use Prim.Native.Nat.{ℕ, _+_, _%_, _≤_}
+use Prim.Native.Nat.{ℕ, zero, suc, _+_, _%_, _≤_}
 use mathlib.Core.Path.{_≡_}
 use mathlib.Core.List.{List, _++_}
 use mathlib.Core.Option.{some}
@@ -27,7 +27,7 @@ use Rattle.policy.specs.Calls.{
 use Rattle.keeping.specs.Keeping.{Keeps, Kept as Keeping}
 use Rattle.judging.specs.Judging.{Ready, numberFor}
 use Rattle.request.specs.declared.Parsed.{Parsed}
-use Rattle.request.specs.Parsed.{asRequest, nextRecord}
+use Rattle.request.specs.Parsed.{asRequest, nextRecord, wholeLength}
 
 -- the entry of person s is met with a level
 unfoldable pub loweredTo : List ℕ → ℕ → ℕ → List ℕ
@@ -66,6 +66,17 @@ pub record Finished (t : Tables) (before : State) (requests room : List ℕ) (ze
     pub refused : others ≡ refusedIn (runNumbers t before requests)
     pub left : after ≡ putStates t before (callsOf requests)
     pub answers : written ≡ runNumbers t before requests ++ drop (answersDue requests) room
+
+-- ---- how far the whole records reach
+
+-- where so many turns come to from a place on: each passes the record that stands there, and stays where that is unknown or cut
+unfoldable pub endFrom : ℕ → List ℕ → ℕ → ℕ
+endFrom zero requests at = at
+endFrom (suc n) requests at = endFrom n requests (at + wholeLength (drop at requests))
+
+-- where the whole records end; turns as many as there are bytes pass all of them
+unfoldable pub wholeEnd : List ℕ → ℕ
+wholeEnd requests = endFrom (length requests) requests 0
 
 -- ---- a run so far
 

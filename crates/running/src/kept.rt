@@ -1,25 +1,23 @@
 // A run that keeps what it has gathered: what persons did, what was done on folders and all levels are gathered once, and each granted
 // request is added to them. The loop has the tables by value, reads the entries of a request's own folder and firm, and hands these on; it
-// takes whole records of known kinds, and what is left, one record at most, is put alone.
+// takes all whole records of known kinds, so it tests none, and what is left, an unknown or cut record at most, is put alone.
 ghost use Prim.Native.Nat.{_≤_};
 ghost use lib.ListN.{length};
 ghost use mathlib.Core.Path.{_≡_};
-ghost use mathlib.Core.List.{List};
-ghost use Rattle.policy.specs.History.{historyBytes};
 ghost use Rattle.policy.specs.Request.{setOf};
 ghost use Rattle.policy.specs.Calls.{state, answersDue};
 ghost use Rattle.rules.specs.Sets.{HasClasses};
 ghost use Rattle.rules.specs.Kept.{HasHolders};
 ghost use Rattle.judging.specs.Judging.{Ready};
 ghost use Rattle.keeping.specs.Keeping.{kept, Keeps};
-ghost use Rattle.running.specs.Running.{Begun, Kept};
+ghost use Rattle.running.specs.Running.{wholeEnd, Begun, Kept};
 use crate::Progress;
 use keeping::checks;
 use keeping::kinds;
 use policy::Tables;
 
-// Puts the requests one after another, each on the history and the sets that the one before it leaves, and writes their numbers, up to a
-// record that is unknown or cut or the last of three bytes.
+// Puts the requests one after another, each on the history and the sets that the one before it leaves, and writes their numbers, up to
+// where the whole records end.
 fn run_by(
     t: Tables,
     holders: &[u64; 64],
@@ -33,10 +31,11 @@ fn run_by(
     l: &[u8],
     requests: &[u8],
     answers: &mut [u8],
+    end: usize,
 ) -> Progress
     requires { ⌜
-        Ready t (now h) (now l) × (answersDue (now requests) ≤ length (now answers)) × HasHolders t (now holders)
-        × HasClasses t (now classes)
+        Ready t (now h) (now l) × (answersDue (now requests) ≤ length (now answers)) × (end ≡ wholeEnd (now requests))
+        × HasHolders t (now holders) × HasClasses t (now classes)
         × Keeps t (setOf (now h)) (now l) (kept (now firms) (now holding) (now done) (now next) (now sets))
         ⌝ }
     ensures { λ r. ⌜
@@ -51,22 +50,8 @@ fn run_by(
     let mut at: usize = 0;
     let mut answered: usize = 0;
     let mut granted: usize = 0;
-    loop {
-        if requests.len() - at < 4 {
-            return Progress {
-                at,
-                answered,
-                granted,
-            };
-        }
-        let parsed = request::parse(&requests[at..]);
-        if parsed.kind >> 2 != 4 {
-            return Progress {
-                at,
-                answered,
-                granted,
-            };
-        }
+    while at < end {
+        let parsed = request::parse_whole(&requests[at..]);
         at += parsed.next;
         let folder = t.folders[bits::wide(parsed.target) % 128];
         let firm = t.firms[bits::wide(folder.firm) % 64];
@@ -92,11 +77,25 @@ fn run_by(
         answered += 1;
         granted += crate::granted_by(number);
     }
+    Progress {
+        at,
+        answered,
+        granted,
+    }
 }
 
-// Runs the requests as far as it can.
-pub fn run(t: Tables, h: &mut [u8], l: &mut [u8], requests: &[u8], answers: &mut [u8]) -> Progress
-    requires { ⌜ Ready t (now h) (now l) × (answersDue (now requests) ≤ length (now answers)) ⌝ }
+// Runs the requests up to where the whole records end.
+pub fn run(
+    t: Tables,
+    h: &mut [u8],
+    l: &mut [u8],
+    requests: &[u8],
+    answers: &mut [u8],
+    end: usize,
+) -> Progress
+    requires { ⌜
+        Ready t (now h) (now l) × (answersDue (now requests) ≤ length (now answers)) × (end ≡ wholeEnd (now requests))
+        ⌝ }
     ensures { λ r. ⌜
         Begun t (state (now (h .entry)) (now (l .entry))) (now (requests .entry)) (now (answers .entry)) (r .at) (r .answered) (r .granted)
         (state (now (h .exit)) (now (l .exit))) (now (answers .exit))
@@ -122,6 +121,7 @@ pub fn run(t: Tables, h: &mut [u8], l: &mut [u8], requests: &[u8], answers: &mut
         l,
         requests,
         answers,
+        end,
     );
     levels::sets::store(&sets, l);
     ran

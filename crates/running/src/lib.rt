@@ -7,7 +7,7 @@ ghost use lib.Dec.{eqb};
 ghost use lib.ListN.{length};
 ghost use Rattle.policy.specs.Calls.{state, answersDue};
 ghost use Rattle.judging.specs.Judging.{Ready};
-ghost use Rattle.running.specs.Running.{Finished, Begun};
+ghost use Rattle.running.specs.Running.{wholeEnd, Finished, Begun};
 use policy::Tables;
 use policy::numbers;
 
@@ -15,17 +15,28 @@ pub mod alone;
 pub mod kept;
 mod recording;
 
-// The answers that a run of the requests has: one for each record, and one for the unknown or cut record that ends it.
-pub fn answers_due(requests: &[u8]) -> usize
-    ensures { λ r. ⌜ r ≡ answersDue (now (requests .entry)) ⌝ }
+// The answers that a run of the requests has: one for each record, and one for the unknown or cut record that ends it; and where the whole
+// records end.
+pub struct Extent {
+    pub due: usize,
+    pub end: usize,
+}
+
+// The extent of a run of the requests.
+pub fn extent_of(requests: &[u8]) -> Extent
+    ensures { λ r. ⌜ (r .due ≡ answersDue (now (requests .entry))) × (r .end ≡ wholeEnd (now (requests .entry))) ⌝ }
 {
     let mut at: usize = 0;
     let mut due: usize = 0;
     while at < requests.len() {
-        at += request::next_record(&requests[at..]);
+        let length = request::whole_length(&requests[at..]);
         due += 1;
+        if length == 0 {
+            return Extent { due: due, end: at };
+        }
+        at += length;
     }
-    due
+    Extent { due: due, end: at }
 }
 
 // 1 for the answer to a granted request, and 0 for any other.
@@ -51,16 +62,20 @@ pub struct Counts {
     pub refused: usize,
 }
 
-// Begins a run of the requests: few of them are all left, and of many those that a run by what is gathered once comes to are put.
+// Begins a run of the requests: few of them are all left, and of many all whole records, which end at `end`, are put by what is gathered
+// once.
 fn begin(
     t: Tables,
     h: &mut [u8],
     l: &mut [u8],
     requests: &[u8],
     answers: &mut [u8],
+    end: usize,
     few: bool,
 ) -> Progress
-    requires { ⌜ Ready t (now h) (now l) × (answersDue (now requests) ≤ length (now answers)) ⌝ }
+    requires { ⌜
+        Ready t (now h) (now l) × (answersDue (now requests) ≤ length (now answers)) × (end ≡ wholeEnd (now requests))
+        ⌝ }
     ensures { λ r. ⌜
         Begun t (state (now (h .entry)) (now (l .entry))) (now (requests .entry)) (now (answers .entry)) (r .at) (r .answered) (r .granted)
         (state (now (h .exit)) (now (l .exit))) (now (answers .exit))
@@ -73,24 +88,28 @@ fn begin(
             granted: 0,
         };
     }
-    kept::run(t, h, l, requests, answers)
+    kept::run(t, h, l, requests, answers, end)
 }
 
-// Runs the requests: few of them each alone, and otherwise by what is gathered once, up to the last record.
+// Runs the requests, whose whole records end at `end`: few of them each alone, and otherwise by what is gathered once, with an unknown or
+// cut record alone at last.
 pub fn run(
     t: Tables,
     h: &mut [u8],
     l: &mut [u8],
     requests: &[u8],
     answers: &mut [u8],
+    end: usize,
     few: bool,
 ) -> Counts
-    requires { ⌜ Ready t (now h) (now l) × (answersDue (now requests) ≤ length (now answers)) ⌝ }
+    requires { ⌜
+        Ready t (now h) (now l) × (answersDue (now requests) ≤ length (now answers)) × (end ≡ wholeEnd (now requests))
+        ⌝ }
     ensures { λ r. ⌜
         Finished t (state (now (h .entry)) (now (l .entry))) (now (requests .entry)) (now (answers .entry)) (r .granted) (r .refused)
         (state (now (h .exit)) (now (l .exit))) (now (answers .exit))
         ⌝ }
 {
-    let ran = begin(t, h, l, requests, answers, few);
+    let ran = begin(t, h, l, requests, answers, end, few);
     alone::run_from(t, h, l, requests, answers, ran)
 }

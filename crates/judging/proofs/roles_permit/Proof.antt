@@ -1,8 +1,9 @@
--- `roles_permit` asks for a role without steps, then for one with all steps, and then with the steps that the person applied.
+-- `roles_permit` asks for a role without steps, then for one with all steps, and then with the steps that the person applied. Where the
+-- first test passes, the rights found are those of all reads and writes.
 use mathlib.Core.Path.{sym, _∙_}
-use borrow.Author.Tests.{not-true}
+use borrow.Author.Tests.{not-true, not-false}
 use Rattle.policy.proofs.Requests.{person-below}
-use Rattle.judging.proofs.RoleRights.{roles-say, least-refused, most-held}
+use Rattle.judging.proofs.RoleRights.{least-refused, most-held, applied-decide}
 use borrow.Author.Needs.{needs}
 use Rattle.judging.proofs.roles_permit.Statement.{statement}
 use Rattle.judging.proofs.roles_permit.Tie as tie
@@ -24,8 +25,8 @@ returns c =
     let at-started = c .before .before in
     let start = at-started .before .before .before .before in
     least-refused (start .args .t) (start .args .h .now) (start .args .s) (start .pre .1) (start .pre .2) (start .pre .3)
-    (at-started .before .before .rights-of-accesses .ensures) (at-started .before .persons .ensures) (at-started .has-started .ensures)
-    (start .args .right) (sym (c .before .role-holds .ensures) ∙ not-true _ (c .if1 .taken))
+    (at-started .before .persons .ensures) (at-started .has-started .ensures) (start .args .right)
+    (at-started .before .before .rights-of-accesses .ensures .within) (sym (c .before .role-holds .ensures) ∙ not-true _ (c .if1 .taken))
 
 role-holds-requires-2 : tie.Need-role-holds-requires-2
 role-holds-requires-2 c κs = search needs
@@ -34,9 +35,11 @@ returns-2 : tie.Need-returns-2
 returns-2 c =
     let at-started = c .before .before .before .before in
     let start = at-started .before .before .before .before in
+    let tested = c .before .before in
     most-held (start .args .t) (start .args .h .now) (start .args .s) (start .pre .1) (start .pre .2) (start .pre .3)
-    (at-started .before .before .rights-of-accesses .ensures) (at-started .before .persons .ensures) (at-started .has-started .ensures)
-    (start .args .right) (sym (c .before .role-holds2 .ensures) ∙ c .if2 .taken)
+    (at-started .before .persons .ensures) (at-started .has-started .ensures) (start .args .right)
+    (at-started .before .before .rights-of-accesses .ensures) (sym (tested .before .role-holds .ensures) ∙ not-false _ (tested .if1 .left))
+    (sym (c .before .role-holds2 .ensures) ∙ c .if2 .taken)
 
 steps-applied-requires : tie.Need-steps-applied-requires
 steps-applied-requires c κs =
@@ -50,11 +53,11 @@ returns-3 : tie.Need-returns-3
 returns-3 c =
     let at-started = c .before .before .before .before .before .before in
     let start = at-started .before .before .before .before in
-    λ r d own uses.
-    c .role-holds3 .ensures
-    ∙ roles-say (start .args .t) (start .args .h .now) (start .args .s) (start .pre .1) (start .pre .2) (start .pre .3)
-    (at-started .before .before .rights-of-accesses .ensures) (at-started .before .persons .ensures) (at-started .has-started .ensures)
-    (start .args .right) (c .before .steps-applied .ensures) r d own uses
+    let tested = c .before .before .before .before in
+    applied-decide (start .args .t) (start .args .h .now) (start .args .s) (start .pre .1) (start .pre .2) (start .pre .3)
+    (at-started .before .persons .ensures) (at-started .has-started .ensures) (start .args .right)
+    (at-started .before .before .rights-of-accesses .ensures) (sym (tested .before .role-holds .ensures) ∙ not-false _ (tested .if1 .left))
+    (c .before .steps-applied .ensures) (c .role-holds3 .ensures)
 
 pub roles-permit-spec : {M : Type 1} → statement M
 roles-permit-spec =

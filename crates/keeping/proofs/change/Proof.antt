@@ -15,39 +15,30 @@ use Rattle.keeping.proofs.kinds.row.Reads as row-reads
 use Rattle.keeping.proofs.updates.narrowed.Reads as narrowed-reads
 use Rattle.keeping.proofs.updates.set_bit.Reads as set-bit-reads
 
--- src/lib.rt:160:5
 set-bit-requires : tie.Need-set-bit-requires
 set-bit-requires c κs = search needs
 
--- src/lib.rt:161:64
 row-requires : tie.Need-row-requires
 row-requires c κs = search needs
 
--- src/lib.rt:161:15
 narrowed-requires : tie.Need-narrowed-requires
 narrowed-requires c κs = search needs
 
--- src/lib.rt:161:5
 mul-sets : tie.Need-mul-sets
 mul-sets c = search needs
 
--- src/lib.rt:161:5
 element-write-sets : tie.Need-element-write-sets
 element-write-sets c = search needs
 
--- src/lib.rt:162:22
 row-requires-2 : tie.Need-row-requires-2
 row-requires-2 c κs = search needs
 
--- src/lib.rt:163:5
 keep-requires : tie.Need-keep-requires
 keep-requires c κs = search needs
 
--- src/lib.rt:131:1
 same-length : tie.Need-same-length
 same-length c = search needs
 
--- src/lib.rt:131:1
 returns : tie.Need-returns
 returns c =
     λ q g counted row all counts.

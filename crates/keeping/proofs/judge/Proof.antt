@@ -16,27 +16,21 @@ use Rattle.keeping.proofs.checks.unknown_check.Reads as unknown-check-r
 use Rattle.keeping.proofs.kinds.row.Reads as row-reads
 use Rattle.keeping.proofs.others_check.Reads as others-check-reads
 
--- src/lib.rt:89:9
 unknown-check-requires : tie.Need-unknown-check-requires
 unknown-check-requires c κs = search needs
 
--- src/lib.rt:90:9
 row-requires : tie.Need-row-requires
 row-requires c κs = search needs
 
--- src/lib.rt:91:9
 level-check-requires : tie.Need-level-check-requires
 level-check-requires c κs = search needs
 
--- src/lib.rt:92:9
 others-check-requires : tie.Need-others-check-requires
 others-check-requires c κs = search needs
 
--- src/lib.rt:93:5
 first-check-requires : tie.Need-first-check-requires
 first-check-requires c κs = search needs
 
--- src/lib.rt:70:1
 returns : tie.Need-returns
 unfolding failingOf
 returns c = (

@@ -8,19 +8,15 @@ use Rattle.keeping.proofs.updates.keep_firm.Reads as keep-firm-reads
 use Rattle.keeping.proofs.updates.keep_roles.Reads as keep-roles-reads
 use Rattle.keeping.proofs.updates.keep_step.Reads as keep-step-reads
 
--- src/lib.rt:125:5
 keep-firm-requires : tie.Need-keep-firm-requires
 keep-firm-requires c κs = search needs
 
--- src/lib.rt:126:5
 keep-roles-requires : tie.Need-keep-roles-requires
 keep-roles-requires c κs = search needs
 
--- src/lib.rt:127:5
 keep-step-requires : tie.Need-keep-step-requires
 keep-step-requires c κs = search needs
 
--- src/lib.rt:97:1
 returns : tie.Need-returns
 returns c =
     λ g counted b all counts made.

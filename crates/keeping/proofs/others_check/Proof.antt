@@ -13,23 +13,18 @@ use Rattle.keeping.proofs.checks.roles_check.Reads as roles-check-reads
 use Rattle.keeping.proofs.checks.wall_check.Reads as wall-check-reads
 use Rattle.keeping.proofs.kinds.row.Reads as row-reads
 
--- src/lib.rt:63:9
 wall-check-requires : tie.Need-wall-check-requires
 wall-check-requires c κs = search needs
 
--- src/lib.rt:64:9
 roles-check-requires : tie.Need-roles-check-requires
 roles-check-requires c κs = search needs
 
--- src/lib.rt:65:9
 row-requires : tie.Need-row-requires
 row-requires c κs = search needs
 
--- src/lib.rt:66:20
 pipeline-check-requires : tie.Need-pipeline-check-requires
 pipeline-check-requires c κs = search needs
 
--- src/lib.rt:42:1
 returns : tie.Need-returns
 unfolding othersOf
 returns c =

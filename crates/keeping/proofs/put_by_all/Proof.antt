@@ -35,23 +35,18 @@ right-in : (r : Parsed) (f : ℕ) {x : Placed} {n : ℕ} → 15 < r .kind → r 
     → n ≡ rightBy (r .kind) f (x .step) → n < 64
 right-in r f low high e is = rw (is, e) (right-small (r .kind) (r .person) (r .target) (r .step) f low high)
 
--- src/lib.rt:123:9
 place-requires : tie.Need-place-requires
 place-requires c κs = search needs
 
--- src/lib.rt:128:48
 row-requires : tie.Need-row-requires
 row-requires c κs = search needs
 
--- src/lib.rt:128:9
 counts-requires : tie.Need-counts-requires
 counts-requires c κs = search needs
 
--- src/lib.rt:129:9
 wide-requires : tie.Need-wide-requires
 wide-requires c κs = search needs
 
--- src/lib.rt:130:24
 right-requires : tie.Need-right-requires
 right-requires c κs =
     let start = c .before .before .before .before .before in
@@ -59,73 +54,62 @@ right-requires c κs =
     .before .before .before .before .before .pre .4) (c .before .before .before .place .ensures .1) (c .before .before .before .place
     .ensures .0) in (start .pre .0, start .pre .3, start .pre .4, at .stepBelow)
 
--- src/lib.rt:130:16
 mul-held : tie.Need-mul-held
 mul-held c = let l = right-in (c .before .before .before .before .before .before .args .r) (c .before .before .before .before .before
     .before .args .folder .kind) (c .before .before .before .before .before .before .pre .3) (c .before .before .before .before .before
     .before .pre .4) (c .before .before .before .before .place .ensures .0) (c .right .ensures) in omega (arith, l)
 
--- src/lib.rt:130:16
 element-copy-out-held : tie.Need-element-copy-out-held
 element-copy-out-held c = right-in (c .before .before .before .before .before .before .args .r) (c .before .before .before .before
     .before .before .args .folder .kind) (c .before .before .before .before .before .before .pre .3) (c .before .before .before .before
     .before .before .pre .4) (c .before .before .before .before .place .ensures .0) (c .right .ensures)
 
--- src/lib.rt:131:18
 mul-needed : tie.Need-mul-needed
 mul-needed c = let l = placed-at (c .before .before .before .before .before .before .before .args .r) (c .before .before .before .before
     .before .before .before .pre .3) (c .before .before .before .before .before .before .before .pre .4) (c .before .before .before
     .before .before .place .ensures .1) (c .before .before .before .before .before .place .ensures .0) .setBelow in omega (arith, l)
 
--- src/lib.rt:131:18
 element-copy-out-needed : tie.Need-element-copy-out-needed
 element-copy-out-needed c = placed-at (c .before .before .before .before .before .before .before .args .r) (c .before .before .before
     .before .before .before .before .pre .3) (c .before .before .before .before .before .before .before .pre .4) (c .before .before
     .before .before .before .place .ensures .1) (c .before .before .before .before .before .place .ensures .0) .setBelow
 
--- src/lib.rt:132:15
 mul-own : tie.Need-mul-own
 mul-own c = let l = placed-at (c .before .before .before .before .before .before .before .before .args .r) (c .before .before .before
     .before .before .before .before .before .pre .3) (c .before .before .before .before .before .before .before .before .pre .4) (c
     .before .before .before .before .before .before .place .ensures .1) (c .before .before .before .before .before .before .place
     .ensures .0) .personBelow in omega (arith, l)
 
--- src/lib.rt:132:15
 element-copy-out-own : tie.Need-element-copy-out-own
 element-copy-out-own c = let l = placed-at (c .before .before .before .before .before .before .before .before .args .r) (c .before
     .before .before .before .before .before .before .before .pre .3) (c .before .before .before .before .before .before .before .before
     .pre .4) (c .before .before .before .before .before .before .place .ensures .1) (c .before .before .before .before .before .before
     .place .ensures .0) .personBelow in omega (arith, l)
 
--- src/lib.rt:137:18
 mul-t31 : tie.Need-mul-t31
 mul-t31 c = let l = placed-at (c .before .before .before .before .before .before .before .before .before .args .r) (c .before .before
     .before .before .before .before .before .before .before .pre .3) (c .before .before .before .before .before .before .before .before
     .before .pre .4) (c .before .before .before .before .before .before .before .place .ensures .1) (c .before .before .before .before
     .before .before .before .place .ensures .0) .personBelow in omega (arith, l)
 
--- src/lib.rt:137:18
 element-copy-out-t30 : tie.Need-element-copy-out-t30
 element-copy-out-t30 c = placed-at (c .before .before .before .before .before .before .before .before .before .args .r) (c .before
     .before .before .before .before .before .before .before .before .pre .3) (c .before .before .before .before .before .before .before
     .before .before .pre .4) (c .before .before .before .before .before .before .before .place .ensures .1) (c .before .before .before
     .before .before .before .before .place .ensures .0) .personBelow
 
--- src/lib.rt:138:18
 mul-t32 : tie.Need-mul-t32
 mul-t32 c = let l = placed-at (c .before .before .before .before .before .before .before .before .before .before .args .r) (c .before
     .before .before .before .before .before .before .before .before .before .pre .3) (c .before .before .before .before .before .before
     .before .before .before .before .pre .4) (c .before .before .before .before .before .before .before .before .place .ensures .1) (c
     .before .before .before .before .before .before .before .before .place .ensures .0) .personBelow in omega (arith, l)
 
--- src/lib.rt:138:18
 element-copy-out-t43 : tie.Need-element-copy-out-t43
 element-copy-out-t43 c = placed-at (c .before .before .before .before .before .before .before .before .before .before .args .r) (c
     .before .before .before .before .before .before .before .before .before .before .pre .3) (c .before .before .before .before .before
     .before .before .before .before .before .pre .4) (c .before .before .before .before .before .before .before .before .place .ensures
     .1) (c .before .before .before .before .before .before .before .before .place .ensures .0) .personBelow
 
--- src/lib.rt:140:15
 mul-all : tie.Need-mul-all
 mul-all c = let l = placed-at (c .before .before .before .before .before .before .before .before .before .before .before .args .r) (c
     .before .before .before .before .before .before .before .before .before .before .before .pre .3) (c .before .before .before .before
@@ -133,7 +117,6 @@ mul-all c = let l = placed-at (c .before .before .before .before .before .before
     .before .place .ensures .1) (c .before .before .before .before .before .before .before .before .before .place .ensures .0)
     .placeBelow in omega (arith, l)
 
--- src/lib.rt:140:15
 element-copy-out-all : tie.Need-element-copy-out-all
 element-copy-out-all c = placed-at (c .before .before .before .before .before .before .before .before .before .before .before .args .r)
     (c .before .before .before .before .before .before .before .before .before .before .before .pre .3) (c .before .before .before
@@ -141,19 +124,15 @@ element-copy-out-all c = placed-at (c .before .before .before .before .before .b
     .before .before .place .ensures .1) (c .before .before .before .before .before .before .before .before .before .place .ensures .0)
     .placeBelow
 
--- src/lib.rt:142:9
 judge-requires : tie.Need-judge-requires
 judge-requires c κs = search needs
 
--- src/lib.rt:143:15
 mul-all-2 : tie.Need-mul-all-2
 mul-all-2 c = search needs
 
--- src/lib.rt:143:15
 element-copy-out-all-2 : tie.Need-element-copy-out-all-2
 element-copy-out-all-2 c = search needs
 
--- src/lib.rt:144:5
 change-requires : tie.Need-change-requires
 change-requires c κs =
     let start = c .before .before .before .before .before .before .before .before .before .before .before .before .before .before .before
@@ -171,15 +150,12 @@ change-requires c κs =
       start .pre .6,
     )
 
--- src/lib.rt:145:5
 element-copy-out-result : tie.Need-element-copy-out-result
 element-copy-out-result c = search needs
 
--- src/lib.rt:95:1
 same-length : tie.Need-same-length
 same-length c = search needs
 
--- src/lib.rt:95:1
 returns : tie.Need-returns
 returns c =
     λ t l serves keeps.

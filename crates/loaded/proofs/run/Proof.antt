@@ -9,7 +9,7 @@ use Rattle.loaded.proofs.run.Reads as reads
 use Rattle.loaded.proofs.run.Lts as lts
 use Rattle.loaded.proofs.lengths.Reads as lengths-reads
 use Rattle.loaded.proofs.no_run.Reads as no-run-reads
-use Rattle.running.proofs.answers_due.Reads as answers-due-reads
+use Rattle.running.proofs.extent_of.Reads as extent-of-reads
 use Rattle.running.proofs.run.Reads as run-reads
 
 lengths-requires : tie.Need-lengths-requires
@@ -29,8 +29,8 @@ returns c =
     let checks = c .before .before .lengths .ensures _ (c .before .before .before .before .before .before .before .before .before .pre) in
     rw (c .no-run .ensures) (run-stopped _ _ _ _ _ checks (c .before .if1 .taken))
 
-answers-due-requires : tie.Need-answers-due-requires
-answers-due-requires c κs = search needs
+extent-of-requires : tie.Need-extent-of-requires
+extent-of-requires c κs = search needs
 
 no-run-requires-2 : tie.Need-no-run-requires-2
 no-run-requires-2 c κs = search needs
@@ -43,22 +43,24 @@ same-length-4 c = search needs
 
 returns-2 : tie.Need-returns-2
 returns-2 c =
-    let at-if1 = c .before .before .before in
+    let at-if1 = c .before .before .before .before in
     let at-lengths = at-if1 .before in
     let start = at-lengths .before .before .before .before .before .before .before in
     let checks = at-lengths .lengths .ensures _ (start .pre) in
+    let due = c .before .before .before .extent-of .ensures .0 in
     rw (c .no-run2 .ensures)
-    (run-without-room _ _ _ _ (sym checks ∙ at-if1 .if1 .left) (rw (← c .before .before .answers-due .ensures) (c .before .if2 .taken)))
+    (run-without-room _ _ _ _ (sym checks ∙ at-if1 .if1 .left) (rw (← due) (c .before .if2 .taken)))
 
 run-requires : tie.Need-run-requires
 run-requires c κs =
-    let at-if2 = c .before .before .before in
-    let at-answers-due = at-if2 .before in
-    let at-if1 = at-answers-due .before in
+    let at-if2 = c .before .before .before .before in
+    let at-extent = at-if2 .before .before in
+    let at-if1 = at-extent .before in
     let at-lengths = at-if1 .before in
     let start = at-lengths .before .before .before .before .before .before .before in
     let checks = at-lengths .lengths .ensures _ (start .pre) in
-    (passed-ready _ _ (sym checks ∙ at-if1 .if1 .left), rw (← at-answers-due .answers-due .ensures) (at-if2 .if2 .left))
+    let extent = at-extent .extent-of .ensures in
+    (passed-ready _ _ (sym checks ∙ at-if1 .if1 .left), rw (← extent .0) (at-if2 .if2 .left), extent .1)
 
 same-length-5 : tie.Need-same-length-5
 same-length-5 c = search needs
@@ -72,14 +74,14 @@ same-length-7 c = search needs
 returns-3 : tie.Need-returns-3
 returns-3 c =
     let at-run = c .before .before .before .before .before .before in
-    let at-if2 = at-run .before .before .before .before in
-    let at-answers-due = at-if2 .before in
-    let at-if1 = at-answers-due .before in
+    let at-if2 = at-run .before .before .before .before .before in
+    let at-extent = at-if2 .before .before in
+    let at-if1 = at-extent .before in
     let at-lengths = at-if1 .before in
     let start = at-lengths .before .before .before .before .before .before .before in
     let checks = at-lengths .lengths .ensures _ (start .pre) in
     let done = at-run .run .ensures in
-    run-done _ _ _ _ (sym checks ∙ at-if1 .if1 .left) (rw (← at-answers-due .answers-due .ensures) (at-if2 .if2 .left)) _ _ _ _
+    run-done _ _ _ _ (sym checks ∙ at-if1 .if1 .left) (rw (← at-extent .extent-of .ensures .0) (at-if2 .if2 .left)) _ _ _ _
     (done .granted) (done .refused) (done .left) (done .answers)
 
 pub run-spec : {M : Type 1} → statement M
@@ -91,7 +93,7 @@ run-spec =
     same-length
     same-length-2
     returns
-    answers-due-requires
+    extent-of-requires
     no-run-requires-2
     same-length-3
     same-length-4

@@ -23,7 +23,7 @@ use Rattle.past.proofs.past_of.Tie as tie
 answer : (t : Tables) (h : List ℕ) (s : ℕ) → personDeclared t s ≡ true → {persons steps rights : ℕ} {starts : Bool}
     → persons ≡ maskBelow 64 (personDeclared t) → steps ≡ maskBelow 16 (appliedAt t h s) → (gathered : Past)
     → gathered ≡ pastBelow t (setOf h) s 128 → starts ≡ started persons h s → rights ≡ rightsWith (gathered .rights) steps starts
-    → record { rights = rights; firms = gathered .firms; counted = gathered .counted } ≡ pastOf t (setOf h) s
+    → record { rights = rights; firms = gathered .firms } ≡ pastOf t (setOf h) s
 answer t h s person known applied gathered e b r = rw (r, b, e) (past-whole t h s person known applied)
 
 past-over-requires : tie.Need-past-over-requires

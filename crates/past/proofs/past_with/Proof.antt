@@ -32,17 +32,13 @@ with-bit64-if-requires-2 c κs = search needs
 with-bit64-requires : tie.Need-with-bit64-requires
 with-bit64-requires c κs = search needs
 
-with-bit64-if-requires-3 : tie.Need-with-bit64-if-requires-3
-with-bit64-if-requires-3 c κs = search needs
-
 returns-2 : tie.Need-returns-2
 unfolding pastWith
 returns-2 c =
-    let counts = c .with-bit64-if3 in
-    let opens = c .before .before .with-bit64 in
-    let writes = c .before .before .before .with-bit64-if2 in
-    let reads = c .before .before .before .before .with-bit64-if in
-    let tested = c .before .before .before .before .before .before .before in
+    let opens = c .with-bit64 in
+    let writes = c .before .with-bit64-if2 in
+    let reads = c .before .before .with-bit64-if in
+    let tested = c .before .before .before .before .before in
     let start = tested .before .before in
     let folder = start .args .folder in
     let declared = not-false (folder .declared) (tested .if1 .left) in
@@ -50,7 +46,7 @@ returns-2 c =
     let kind : folder .kind % 64 ≡ folder .kind = omega arith in
     let above : (16 + folder .kind) % 64 ≡ 16 + folder .kind = omega arith in
     let firm = mod-eq-of-lt (start .pre .firm declared) in
-    rw (declared, counts .ensures, opens .ensures, writes .ensures, reads .ensures, kind, above, firm)
+    rw (declared, opens .ensures, writes .ensures, reads .ensures, kind, above, firm)
 
 pub past-with-spec : {M : Type 1} → statement M
 past-with-spec =
@@ -63,5 +59,4 @@ past-with-spec =
     add-with-bit64-if
     with-bit64-if-requires-2
     with-bit64-requires
-    with-bit64-if-requires-3
     returns-2)

@@ -2,7 +2,8 @@
 use native.Mathlib.Omega.{arith}
 use mathlib.Core.Path.{sym, _∙_}
 use Rattle.request.specs.Parsed.{asRequest}
-use Rattle.request.proofs.RequestLaws.{is-unknown, long-fields, next-unknown, next-known}
+use Rattle.request.proofs.RequestLaws.{is-unknown, long-fields, next-unknown}
+use Rattle.request.proofs.WholeLaws.{next-known}
 use borrow.Author.Needs.{needs}
 use Rattle.request.proofs.parse.Statement.{statement}
 use Rattle.request.proofs.parse.Tie as tie
@@ -67,7 +68,8 @@ returns-4 c =
     let bytes = c .before .before .before .before .before .before .before .before .before .args .bytes .now in
     record {
       request = long-fields bytes _ (omega arith) (c .before .before .before .longer .ensures .0);
-      onward = sym (next-known bytes (omega arith) _ (omega arith) (omega arith) (c .before .before .before .longer .ensures .0));
+      onward = sym (next-known bytes _ (c .before .before .before .longer .ensures .0) (omega arith) (omega arith)
+          (omega (arith, c .before .before .before .longer .ensures .1)));
     }
 
 pub parse-spec : {M : Type 1} → statement M

@@ -1,38 +1,23 @@
 -- `load` keeps, from record to record, that the bytes left and the tables so far come to what the whole book comes to: `Left`. Each arm of
--- the second match stores what the record of its kind declares. Its last arm is never reached: a record that passes has a known kind.
-use Prim.Native.Nat.{ℕ, suc, _-_, _<_}
+-- the second match stores what the record of its kind declares (Proof/Stores); of a record that is refused nothing is handed back.
+use Prim.Native.Nat.{ℕ, _-_}
 use mathlib.Core.Bool.{true}
-use mathlib.Core.Path.{_≡_, refl, _∙_}
+use mathlib.Core.Path.{_≡_, refl, ap, _∙_}
 use lib.ListN.{length}
 use borrow.Author.Needs.{needs}
-use Rattle.bits.specs.Bits.{withBit}
-use Rattle.policy.specs.Rulebook.{Record, lastKind, inRange, declare}
-use Rattle.rulebook.specs.Readings.{recordRead, numberOf}
-use Rattle.rulebook.proofs.TurnLaws.{within}
-use Rattle.rulebook.proofs.KindLaws.{past-last, too-high, is-rules, is-firm, is-person, is-folder, is-role, is-pair, is-public}
+use Rattle.policy.specs.Rulebook.{inRange}
+use Rattle.rulebook.specs.Readings.{recordRead, passedBook}
 use Rattle.rulebook.proofs.NumberLaws as laws
-use Rattle.rulebook.proofs.LoadLaws.{Left, starts, goes-by, less, whole, passes, refused-by, ended-by}
-use Rattle.rulebook.proofs.load.Proof.Numbers.{Inv-loop, μ-loop, book, at, tables, reading, left, read, number-is}
+use Rattle.rulebook.proofs.LoadLaws.{Left, starts, less, refused-by, ended-by}
+use Rattle.rulebook.proofs.load.Proof.Numbers.{Inv-loop, μ-loop, Met, reading, left, read, number-is}
+use Rattle.rulebook.proofs.load.Proof.Stores.{passed, unchanged, goes}
 use Rattle.rulebook.proofs.load.Statement.{statement}
 use Rattle.rulebook.proofs.load.Tie as tie
 mod Numbers
+mod Stores
 
--- the record has passed
-abbrev Passed : Type 0
-Passed = tie.Else1 Inv-loop μ-loop
-
-passed : (p : Passed) → numberOf (tables (p .before)) (reading (p .before)) ≡ 0
-passed p = passes (left (p .before)) (read (p .before)) (number-is (p .before)) (p .if1 .left)
-
-inside : (p : Passed) → inRange (recordRead (reading (p .before))) ≡ true
-inside p = read (p .before) .inside
-
-lessens : (p : Passed) → length (book (p .before)) - reading (p .before) .next < length (book (p .before)) - at (p .before)
-lessens p = less (left (p .before)) (read (p .before)) refl (passed p)
-
-goes : (p : Passed) (k : ℕ) (x : Record) → reading (p .before) .kind ≡ suc k → recordRead (reading (p .before)) ≡ x
-    → Left (book (p .before)) (reading (p .before) .next) (declare (tables (p .before)) x)
-goes p = goes-by (left (p .before)) (read (p .before)) refl (passed p)
+inside : (met : Met) → inRange (recordRead (reading met)) ≡ true
+inside met = read met .inside
 
 empty-requires : tie.Need-empty-requires Inv-loop μ-loop
 empty-requires c κs = search needs
@@ -118,64 +103,47 @@ mark-number-requires c κs = search needs
 end-number-requires : tie.Need-end-number-requires Inv-loop μ-loop
 end-number-requires c κs = search needs
 
-refuse-requires : tie.Need-refuse-requires Inv-loop μ-loop
-refuse-requires c κs = search needs
-
-returns : tie.Need-returns Inv-loop μ-loop
-returns c =
-    let met = c .before .before in
-    c .refuse .ensures ∙ refused-by (left met) (read met) (number-is met) (c .before .if1 .taken)
-
-finish-requires : tie.Need-finish-requires Inv-loop μ-loop
-finish-requires c κs = search needs
-
-returns-2 : tie.Need-returns-2 Inv-loop μ-loop
-returns-2 c =
-    let met = c .before .before .before in
-    c .finish .ensures
-    ∙ ended-by (left met) (read met) (number-is met) (c .before .before .if1 .left) (c .before .match2 .keys1)
-
 new-firm-requires : tie.Need-new-firm-requires Inv-loop μ-loop
 new-firm-requires c κs = search needs
 
-mul-t46 : tie.Need-mul-t46 Inv-loop μ-loop
-mul-t46 c = search needs
+mul-t44 : tie.Need-mul-t44 Inv-loop μ-loop
+mul-t44 c = search needs
 
 element-set-from-t : tie.Need-element-set-from-t Inv-loop μ-loop
-element-set-from-t c = laws.firm-inside _ (inside (c .before .before)) (c .before .match2 .keys3)
+element-set-from-t c = laws.firm-inside _ (inside (c .before .before)) (c .before .match2 .keys2)
 
 new-person-requires : tie.Need-new-person-requires Inv-loop μ-loop
 new-person-requires c κs = search needs
 
-mul-t50 : tie.Need-mul-t50 Inv-loop μ-loop
-mul-t50 c = search needs
+mul-t48 : tie.Need-mul-t48 Inv-loop μ-loop
+mul-t48 c = search needs
 
 element-set-from-t-2 : tie.Need-element-set-from-t-2 Inv-loop μ-loop
-element-set-from-t-2 c = laws.person-inside _ (inside (c .before .before)) (c .before .match2 .keys4)
+element-set-from-t-2 c = laws.person-inside _ (inside (c .before .before)) (c .before .match2 .keys3)
 
 new-folder-requires : tie.Need-new-folder-requires Inv-loop μ-loop
 new-folder-requires c κs = search needs
 
-mul-t54 : tie.Need-mul-t54 Inv-loop μ-loop
-mul-t54 c = search needs
+mul-t52 : tie.Need-mul-t52 Inv-loop μ-loop
+mul-t52 c = search needs
 
 element-set-from-t-3 : tie.Need-element-set-from-t-3 Inv-loop μ-loop
-element-set-from-t-3 c = laws.folder-inside _ (inside (c .before .before)) (c .before .match2 .keys5)
+element-set-from-t-3 c = laws.folder-inside _ (inside (c .before .before)) (c .before .match2 .keys4)
 
 new-role-requires : tie.Need-new-role-requires Inv-loop μ-loop
 new-role-requires c κs = search needs
 
-mul-t58 : tie.Need-mul-t58 Inv-loop μ-loop
-mul-t58 c = search needs
+mul-t56 : tie.Need-mul-t56 Inv-loop μ-loop
+mul-t56 c = search needs
 
 element-set-from-t-4 : tie.Need-element-set-from-t-4 Inv-loop μ-loop
-element-set-from-t-4 c = laws.role-inside _ (inside (c .before .before)) (c .before .match2 .keys6)
+element-set-from-t-4 c = laws.role-inside _ (inside (c .before .before)) (c .before .match2 .keys5)
 
 mul-with-bit16 : tie.Need-mul-with-bit16 Inv-loop μ-loop
 mul-with-bit16 c = search needs
 
 element-copy-out-with-bit16 : tie.Need-element-copy-out-with-bit16 Inv-loop μ-loop
-element-copy-out-with-bit16 c = laws.step-inside _ (inside (c .before)) (c .match2 .keys7)
+element-copy-out-with-bit16 c = laws.step-inside _ (inside (c .before)) (c .match2 .keys6)
 
 with-bit16-requires : tie.Need-with-bit16-requires Inv-loop μ-loop
 with-bit16-requires c κs = search needs
@@ -184,98 +152,51 @@ mul-t : tie.Need-mul-t Inv-loop μ-loop
 mul-t c = search needs
 
 element-write-t : tie.Need-element-write-t Inv-loop μ-loop
-element-write-t c = laws.step-inside _ (inside (c .before .before .before)) (c .before .before .match2 .keys7)
+element-write-t c = laws.step-inside _ (inside (c .before .before .before)) (c .before .before .match2 .keys6)
 
 mul-made-public : tie.Need-mul-made-public Inv-loop μ-loop
 mul-made-public c = search needs
 
 element-copy-out-made-public : tie.Need-element-copy-out-made-public Inv-loop μ-loop
-element-copy-out-made-public c = laws.public-inside _ (inside (c .before)) (c .match2 .keys8)
+element-copy-out-made-public c = laws.public-inside _ (inside (c .before)) (c .match2 .keys7)
 
 made-public-requires : tie.Need-made-public-requires Inv-loop μ-loop
 made-public-requires c κs = search needs
 
-mul-t74 : tie.Need-mul-t74 Inv-loop μ-loop
-mul-t74 c = search needs
+mul-t72 : tie.Need-mul-t72 Inv-loop μ-loop
+mul-t72 c = search needs
 
 element-set-from-t-5 : tie.Need-element-set-from-t-5 Inv-loop μ-loop
-element-set-from-t-5 c = laws.public-inside _ (inside (c .before .before .before)) (c .before .before .match2 .keys8)
+element-set-from-t-5 c = laws.public-inside _ (inside (c .before .before .before)) (c .before .before .match2 .keys7)
 
-refuse-requires-2 : tie.Need-refuse-requires-2 Inv-loop μ-loop
-refuse-requires-2 c κs = search needs
+refuse-requires : tie.Need-refuse-requires Inv-loop μ-loop
+refuse-requires c κs = search needs
 
-returns-3 : tie.Need-returns-3 Inv-loop μ-loop
-returns-3 c =
+returns : tie.Need-returns Inv-loop μ-loop
+returns c =
     let met = c .before .before .before in
-    let rest = c .before .match2 .rest in
-    let here = whole (left met) (read met) refl (passed (c .before .before)) in
-    let above : lastKind < reading met .kind =
-    past-last _ (rest .0 .0 .0 .0 .0 .0 .0 .1) (rest .0 .0 .0 .0 .0 .0 .1) (rest .0 .0 .0 .0 .0 .1) (rest .0 .0 .0 .0 .1)
-    (rest .0 .0 .0 .1) (rest .0 .0 .1) (rest .0 .1) (rest .1) in
-    let none : ⊥ = too-high (here .known) (here .same-kind) above in
-    absurd none
+    c .refuse .ensures ∙ refused-by (left met) (read met) (number-is met) (c .before .if1 .taken)
+
+finish-requires : tie.Need-finish-requires Inv-loop μ-loop
+finish-requires c κs = search needs
+
+returns-2 : tie.Need-returns-2 Inv-loop μ-loop
+returns-2 c =
+    let stored = c .before .before .before in
+    let met = stored .before in
+    let end = c .before .if2 .taken in
+    c .finish .ensures
+    ∙ ap (passedBook _) (unchanged stored end)
+    ∙ ended-by (left met) (read met) (number-is met) (c .before .before .if1 .left) end
 
 loop-less : tie.Need-loop-less Inv-loop μ-loop
-loop-less c = lessens (c .before)
+loop-less c =
+    let stored = c .before .before in
+    let met = stored .before in
+    less (left met) (read met) refl (passed stored (c .before .if1 .left))
 
 loop-again : tie.Need-loop-again Inv-loop μ-loop
-unfolding declare
-loop-again c = goes (c .before) 0 _ (c .match2 .keys2) (is-rules _ (c .match2 .keys2))
-
-loop-less-2 : tie.Need-loop-less-2 Inv-loop μ-loop
-loop-less-2 c = lessens (c .before .before)
-
-loop-again-2 : tie.Need-loop-again-2 Inv-loop μ-loop
-unfolding declare
-loop-again-2 c =
-    let key = c .before .match2 .keys3 in
-    rw (c .new-firm .ensures) (goes (c .before .before) 1 _ key (is-firm _ key))
-
-loop-less-3 : tie.Need-loop-less-3 Inv-loop μ-loop
-loop-less-3 c = lessens (c .before .before)
-
-loop-again-3 : tie.Need-loop-again-3 Inv-loop μ-loop
-unfolding declare
-loop-again-3 c =
-    let key = c .before .match2 .keys4 in
-    rw (c .new-person .ensures) (goes (c .before .before) 2 _ key (is-person _ key))
-
-loop-less-4 : tie.Need-loop-less-4 Inv-loop μ-loop
-loop-less-4 c = lessens (c .before .before)
-
-loop-again-4 : tie.Need-loop-again-4 Inv-loop μ-loop
-unfolding declare
-loop-again-4 c =
-    let key = c .before .match2 .keys5 in
-    rw (c .new-folder .ensures) (goes (c .before .before) 3 _ key (is-folder _ key))
-
-loop-less-5 : tie.Need-loop-less-5 Inv-loop μ-loop
-loop-less-5 c = lessens (c .before .before)
-
-loop-again-5 : tie.Need-loop-again-5 Inv-loop μ-loop
-unfolding declare
-loop-again-5 c =
-    let key = c .before .match2 .keys6 in
-    rw (c .new-role .ensures) (goes (c .before .before) 4 _ key (is-role _ key))
-
-loop-less-6 : tie.Need-loop-less-6 Inv-loop μ-loop
-loop-less-6 c = lessens (c .before .before .before)
-
-loop-again-6 : tie.Need-loop-again-6 Inv-loop μ-loop
-unfolding declare
-loop-again-6 c =
-    let key = c .before .before .match2 .keys7 in
-    rw (c .with-bit16 .ensures, within (withBit _) _ 16 (laws.enabled-inside _ (inside (c .before .before .before)) key))
-    (goes (c .before .before .before) 5 _ key (is-pair _ key))
-
-loop-less-7 : tie.Need-loop-less-7 Inv-loop μ-loop
-loop-less-7 c = lessens (c .before .before .before)
-
-loop-again-7 : tie.Need-loop-again-7 Inv-loop μ-loop
-unfolding declare
-loop-again-7 c =
-    let key = c .before .before .match2 .keys8 in
-    rw (c .made-public .ensures) (goes (c .before .before .before) 6 _ key (is-public _ key))
+loop-again c = goes (c .before .before) (c .before .if1 .left) (c .if2 .left)
 
 pub load-spec : {M : Type 1} → statement M
 load-spec =
@@ -311,21 +232,17 @@ load-spec =
     element-copy-out-mark-number-2
     mark-number-requires
     end-number-requires
-    refuse-requires
-    returns
-    finish-requires
-    returns-2
     new-firm-requires
-    mul-t46
+    mul-t44
     element-set-from-t
     new-person-requires
-    mul-t50
+    mul-t48
     element-set-from-t-2
     new-folder-requires
-    mul-t54
+    mul-t52
     element-set-from-t-3
     new-role-requires
-    mul-t58
+    mul-t56
     element-set-from-t-4
     mul-with-bit16
     element-copy-out-with-bit16
@@ -335,21 +252,11 @@ load-spec =
     mul-made-public
     element-copy-out-made-public
     made-public-requires
-    mul-t74
+    mul-t72
     element-set-from-t-5
-    refuse-requires-2
-    returns-3
+    refuse-requires
+    returns
+    finish-requires
+    returns-2
     loop-less
-    loop-again
-    loop-less-2
-    loop-again-2
-    loop-less-3
-    loop-again-3
-    loop-less-4
-    loop-again-4
-    loop-less-5
-    loop-again-5
-    loop-less-6
-    loop-again-6
-    loop-less-7
-    loop-again-7)
+    loop-again)

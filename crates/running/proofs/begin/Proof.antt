@@ -9,7 +9,6 @@ use Rattle.running.proofs.begin.Reads as reads
 use Rattle.running.proofs.begin.Lts as lts
 use Rattle.running.proofs.kept.run.Reads as run-reads
 
--- src/lib.rt:63:9
 returns : tie.Need-returns
 returns c = record {
   done = done-none (c .before .before .before .before .before .pre .0);
@@ -18,23 +17,18 @@ returns c = record {
   same = refl;
 }
 
--- src/lib.rt:69:5
 run-requires : tie.Need-run-requires
 run-requires c κs = search needs
 
--- src/lib.rt:55:1
 same-length : tie.Need-same-length
 same-length c = search needs
 
--- src/lib.rt:55:1
 same-length-2 : tie.Need-same-length-2
 same-length-2 c = search needs
 
--- src/lib.rt:55:1
 same-length-3 : tie.Need-same-length-3
 same-length-3 c = search needs
 
--- src/lib.rt:55:1
 returns-2 : tie.Need-returns-2
 returns-2 c = search needs
 

@@ -11,11 +11,9 @@ use Rattle.running.proofs.run.Lts as lts
 use Rattle.running.proofs.alone.run_from.Reads as run-from-reads
 use Rattle.running.proofs.begin.Reads as begin-reads
 
--- src/lib.rt:87:9
 begin-requires : tie.Need-begin-requires
 begin-requires c κs = search needs
 
--- src/lib.rt:88:5
 run-from-requires : tie.Need-run-from-requires
 run-from-requires c κs =
     let begun = c .before .before .before .before .before .before .before .before .before .begin .ensures in (
@@ -28,19 +26,15 @@ run-from-requires c κs =
       )),
     )
 
--- src/lib.rt:73:1
 same-length : tie.Need-same-length
 same-length c = search needs
 
--- src/lib.rt:73:1
 same-length-2 : tie.Need-same-length-2
 same-length-2 c = search needs
 
--- src/lib.rt:73:1
 same-length-3 : tie.Need-same-length-3
 same-length-3 c = search needs
 
--- src/lib.rt:73:1
 returns : tie.Need-returns
 returns c =
     let begun = c .before .before .before .before .before .before .before .before .before .before .before .before .before .before .before

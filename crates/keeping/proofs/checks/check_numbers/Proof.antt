@@ -6,7 +6,6 @@ use Rattle.keeping.proofs.checks.check_numbers.Tie as tie
 use Rattle.keeping.proofs.checks.check_numbers.Reads as reads
 use Rattle.keeping.proofs.checks.check_numbers.Lts as lts
 
--- src/checks.rt:67:1
 returns : tie.Need-returns
 unfolding numberAt
 returns c = refl

@@ -8,11 +8,9 @@ use Rattle.keeping.proofs.checks.counts.Reads as reads
 use Rattle.keeping.proofs.checks.counts.Lts as lts
 use Rattle.bits.proofs.one_if.Reads as one-if-reads
 
--- src/checks.rt:16:5
 one-if-requires : tie.Need-one-if-requires
 one-if-requires c κs = search needs
 
--- src/checks.rt:13:1
 returns : tie.Need-returns
 returns c = λ b e. and-ones (not (c .before .args .public)) b (c .one-if .ensures .0) e
 

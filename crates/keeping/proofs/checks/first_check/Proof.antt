@@ -9,11 +9,9 @@ use Rattle.keeping.proofs.checks.first_check.Reads as reads
 use Rattle.keeping.proofs.checks.first_check.Lts as lts
 use Rattle.bits.proofs.lowest64.Reads as lowest64-reads
 
--- src/checks.rt:63:5
 lowest64-requires : tie.Need-lowest64-requires
 lowest64-requires c κs = search needs
 
--- src/checks.rt:56:1
 returns : tie.Need-returns
 returns c = (
   rw (c .lowest64 .ensures) (first-below (bitOr (bitOr (c .before .args .unknown) (c .before .args .level)) (c .before .args .others))),

@@ -6,7 +6,6 @@ use Rattle.keeping.proofs.checks.grants.Tie as tie
 use Rattle.keeping.proofs.checks.grants.Reads as reads
 use Rattle.keeping.proofs.checks.grants.Lts as lts
 
--- src/checks.rt:73:1
 returns : tie.Need-returns
 unfolding grantAt
 returns c = refl

@@ -16,27 +16,21 @@ use Rattle.bits.proofs.one_if.Reads as one-if-reads
 use Rattle.level.proofs.sets.compartment_missing.Reads as compartment-missing-reads
 use Rattle.level.proofs.sets.rank_too_low.Reads as rank-too-low-reads
 
--- src/checks.rt:44:8
 bit8-requires : tie.Need-bit8-requires
 bit8-requires c κs = search needs
 
--- src/checks.rt:45:33
 rank-too-low-requires : tie.Need-rank-too-low-requires
 rank-too-low-requires c κs = search needs
 
--- src/checks.rt:45:13
 one-if-requires : tie.Need-one-if-requires
 one-if-requires c κs = search needs
 
--- src/checks.rt:46:40
 compartment-missing-requires : tie.Need-compartment-missing-requires
 compartment-missing-requires c κs = search needs
 
--- src/checks.rt:46:13
 one-if-requires-2 : tie.Need-one-if-requires-2
 one-if-requires-2 c κs = search needs
 
--- src/checks.rt:47:9
 returns : tie.Need-returns
 unfolding rankLacks compartmentLacks
 returns c =
@@ -49,7 +43,6 @@ returns c =
     (shifted 8 (compartmentLacks a b) (lit< tt) compartment) e
     ∙ rw on
 
--- src/checks.rt:37:1
 returns-2 : tie.Need-returns-2
 returns-2 c = λ a b m n asks l k needs has e. rw (sym (c .before .bit8 .ensures) ∙ c .if1 .left)
 

@@ -16,19 +16,15 @@ use Rattle.bits.proofs.bit64.Reads as bit64-reads
 use Rattle.bits.proofs.bit8.Reads as bit8-reads
 use Rattle.bits.proofs.one_if.Reads as one-if-reads
 
--- src/checks.rt:49:8
 bit8-requires : tie.Need-bit8-requires
 bit8-requires c κs = search needs
 
--- src/checks.rt:50:31
 bit64-requires : tie.Need-bit64-requires
 bit64-requires c κs = search needs
 
--- src/checks.rt:50:17
 one-if-requires : tie.Need-one-if-requires
 one-if-requires c κs = search needs
 
--- src/checks.rt:50:9
 returns : tie.Need-returns
 returns c =
     λ b e.
@@ -39,7 +35,6 @@ returns c =
     ∙ in-force (bit (args .mask) pipelineRule) (refused && b) 32
     (sym (c .before .before .before .bit8 .ensures) ∙ c .before .before .if1 .taken)
 
--- src/checks.rt:44:1
 returns-2 : tie.Need-returns-2
 returns-2 c =
     λ b e.

@@ -15,15 +15,12 @@ use Rattle.keeping.proofs.checks.roles_check.Lts as lts
 use Rattle.bits.proofs.bit8.Reads as bit8-reads
 use Rattle.bits.proofs.one_if.Reads as one-if-reads
 
--- src/checks.rt:37:8
 bit8-requires : tie.Need-bit8-requires
 bit8-requires c κs = search needs
 
--- src/checks.rt:38:16
 one-if-requires : tie.Need-one-if-requires
 one-if-requires c κs = search needs
 
--- src/checks.rt:38:9
 returns : tie.Need-returns
 returns c =
     let args = c .before .before .before .args in
@@ -31,7 +28,6 @@ returns c =
     shifted 16 none (lit< tt) (c .one-if .ensures .0)
     ∙ in-force (bit (args .mask) rolesRule) none 16 (sym (c .before .before .bit8 .ensures) ∙ c .before .if1 .taken)
 
--- src/checks.rt:34:1
 returns-2 : tie.Need-returns-2
 returns-2 c =
     let args = c .before .before .args in

@@ -10,15 +10,12 @@ use Rattle.keeping.proofs.checks.unknown_check.Lts as lts
 use Rattle.bits.proofs.one_if.Reads as one-if-reads
 use Rattle.level.proofs.sets.marked.Reads as marked-reads
 
--- src/checks.rt:59:28
 marked-requires : tie.Need-marked-requires
 marked-requires c κs = search needs
 
--- src/checks.rt:59:15
 one-if-requires : tie.Need-one-if-requires
 one-if-requires c κs = search needs
 
--- src/checks.rt:53:1
 returns : tie.Need-returns
 returns c =
     λ a b m n out l k needs has e.

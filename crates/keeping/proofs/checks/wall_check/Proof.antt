@@ -17,23 +17,18 @@ use Rattle.bits.proofs.bit64.Reads as bit64-reads
 use Rattle.bits.proofs.bit8.Reads as bit8-reads
 use Rattle.bits.proofs.one_if.Reads as one-if-reads
 
--- src/checks.rt:25:8
 bit8-requires : tie.Need-bit8-requires
 bit8-requires c κs = search needs
 
--- src/checks.rt:26:13
 one-if-requires : tie.Need-one-if-requires
 one-if-requires c κs = search needs
 
--- src/checks.rt:27:35
 bit64-requires : tie.Need-bit64-requires
 bit64-requires c κs = search needs
 
--- src/checks.rt:27:13
 one-if-requires-2 : tie.Need-one-if-requires-2
 one-if-requires-2 c κs = search needs
 
--- src/checks.rt:28:9
 returns : tie.Need-returns
 unfolding rivals
 returns c =
@@ -47,7 +42,6 @@ returns c =
     ∙ in-force (bit (args .mask) wallRule) ((some && other) && b) 2
     (sym (c .before .before .before .before .bit8 .ensures) ∙ c .before .before .before .if1 .taken)
 
--- src/checks.rt:20:1
 returns-2 : tie.Need-returns-2
 returns-2 c =
     λ b e.

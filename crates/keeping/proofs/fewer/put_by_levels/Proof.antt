@@ -8,12 +8,11 @@ use Rattle.bits.specs.Bits.{bit}
 use Rattle.policy.specs.Tables.{wallRule, rolesRule, pipelineRule}
 use Rattle.policy.specs.Request.{hasPlace}
 use Rattle.keeping.specs.Kinds.{askedBy, rightBy, isAccess, isStep, lowers, asksLevel}
-use Rattle.keeping.specs.Failing.{failingOf, rivals}
+use Rattle.keeping.specs.Failing.{failingOf}
 use Rattle.keeping.specs.Keeping.{kept}
-use Rattle.keeping.proofs.KindLaws.{row-of}
-use Rattle.keeping.proofs.FailingLaws.{negated, not-in-force, levels-only}
-use Rattle.keeping.proofs.UpdateLaws.{masked-all}
-use Rattle.keeping.proofs.FewerLaws.{others-wall, added-wall}
+use Rattle.keeping.proofs.FailingLaws.{negated, not-in-force}
+use Rattle.keeping.proofs.UpdateLaws.{masked-all, either-way}
+use Rattle.keeping.proofs.FewerLaws.{not-among, without-roles}
 use Rattle.keeping.proofs.Puts.{placed-at, found-at}
 use Rattle.keeping.proofs.fewer.put_by_levels.Statement.{statement}
 use Rattle.keeping.proofs.fewer.put_by_levels.Tie as tie
@@ -27,55 +26,43 @@ use Rattle.keeping.proofs.kinds.row.Reads as row-reads
 use Rattle.keeping.proofs.updates.narrowed.Reads as narrowed-reads
 use Rattle.keeping.proofs.updates.set_bit.Reads as set-bit-reads
 
--- src/fewer.rt:39:9
 place-requires : tie.Need-place-requires
 place-requires c κs = search needs
 
--- src/fewer.rt:42:18
 mul-needed : tie.Need-mul-needed
 mul-needed c = let l = placed-at (c .before .before .args .r) (c .before .before .pre .3) (c .before .before .pre .4) (c .place .ensures
     .1) (c .place .ensures .0) .setBelow in omega (arith, l)
 
--- src/fewer.rt:42:18
 element-copy-out-needed : tie.Need-element-copy-out-needed
 element-copy-out-needed c = let l = placed-at (c .before .before .args .r) (c .before .before .pre .3) (c .before .before .pre .4) (c
     .place .ensures .1) (c .place .ensures .0) .setBelow in omega (arith, l)
 
--- src/fewer.rt:43:15
 mul-own : tie.Need-mul-own
 mul-own c = let l = placed-at (c .before .before .before .args .r) (c .before .before .before .pre .3) (c .before .before .before .pre
     .4) (c .before .place .ensures .1) (c .before .place .ensures .0) .personBelow in omega (arith, l)
 
--- src/fewer.rt:43:15
 element-copy-out-own : tie.Need-element-copy-out-own
 element-copy-out-own c = let l = placed-at (c .before .before .before .args .r) (c .before .before .before .pre .3) (c .before .before
     .before .pre .4) (c .before .place .ensures .1) (c .before .place .ensures .0) .personBelow in omega (arith, l)
 
--- src/fewer.rt:44:9
 unknown-check-requires : tie.Need-unknown-check-requires
 unknown-check-requires c κs = search needs
 
--- src/fewer.rt:45:9
 row-requires : tie.Need-row-requires
 row-requires c κs = search needs
 
--- src/fewer.rt:46:9
 level-check-requires : tie.Need-level-check-requires
 level-check-requires c κs = search needs
 
--- src/fewer.rt:47:9
 first-check-requires : tie.Need-first-check-requires
 first-check-requires c κs = search needs
 
--- src/fewer.rt:48:15
 mul-all : tie.Need-mul-all
 mul-all c = search needs
 
--- src/fewer.rt:48:15
 element-copy-out-all : tie.Need-element-copy-out-all
 element-copy-out-all c = search needs
 
--- src/fewer.rt:49:5
 set-bit-requires : tie.Need-set-bit-requires
 set-bit-requires c κs = (
   c .before .before .before .before .before .before .before .before .before .before .pre .5,
@@ -86,15 +73,12 @@ set-bit-requires c κs = (
       .before .before .before .place .ensures .0) .indexBelow,
 )
 
--- src/fewer.rt:50:52
 row-requires-2 : tie.Need-row-requires-2
 row-requires-2 c κs = search needs
 
--- src/fewer.rt:50:15
 narrowed-requires : tie.Need-narrowed-requires
 narrowed-requires c κs = search needs
 
--- src/fewer.rt:50:5
 mul-sets : tie.Need-mul-sets
 mul-sets c = let l = placed-at (c .before .before .before .before .before .before .before .before .before .before .before .before .before
     .before .before .args .r) (c .before .before .before .before .before .before .before .before .before .before .before .before .before
@@ -103,7 +87,6 @@ mul-sets c = let l = placed-at (c .before .before .before .before .before .befor
     .place .ensures .1) (c .before .before .before .before .before .before .before .before .before .before .before .before .before .place
     .ensures .0) .personBelow in omega (arith, l)
 
--- src/fewer.rt:50:5
 element-write-sets : tie.Need-element-write-sets
 element-write-sets c = let l = placed-at (c .before .before .before .before .before .before .before .before .before .before .before
     .before .before .before .before .args .r) (c .before .before .before .before .before .before .before .before .before .before .before
@@ -112,15 +95,12 @@ element-write-sets c = let l = placed-at (c .before .before .before .before .bef
     .before .before .place .ensures .1) (c .before .before .before .before .before .before .before .before .before .before .before
     .before .before .place .ensures .0) .personBelow in omega (arith, l)
 
--- src/fewer.rt:51:5
 element-copy-out-result : tie.Need-element-copy-out-result
 element-copy-out-result c = search needs
 
--- src/fewer.rt:19:1
 same-length : tie.Need-same-length
 same-length c = search needs
 
--- src/fewer.rt:19:1
 returns : tie.Need-returns
 unfolding failingOf
 returns c =
@@ -134,8 +114,9 @@ returns c =
     let q = askedBy (r .kind) (r .person) (r .target) (r .step) in
     let x = rightBy (r .kind) (e .kind) (at .step) in
     let k = kept firms holding done next (args .sets .now) in
-    let (wall, roles, pipeline) = levels-only (args .mask) (start .pre .7) in
-    let row = row-of (r .kind) (r .person) (r .target) (r .step) (start .pre .3) (start .pre .4) in
+    let wall = not-among (args .mask) 13 wallRule (start .pre .7) refl in
+    let roles = not-among (args .mask) 13 rolesRule (start .pre .7) refl in
+    let pipeline = not-among (args .mask) 13 pipelineRule (start .pre .7) refl in
     let first = c .before .before .before .before .before .before .before .before .first-check in
     found-at t (args .h .now) l (start .pre .5) (args .mask) (r .kind) (r .person) (r .target) (r .step) (start .pre .3) (start .pre .4)
     (placed .ensures .1) k holders steps e class serves keeps at (e .firm) x {counts = cond (not (e .public) && isAccess q) 1 0} (placed
@@ -148,14 +129,18 @@ returns c =
     (hasPlace p)) la lb needed own (out ∙ negated (hasPlace p)))
     (c .before .before .before .before .before .before .before .before .before .level-check .ensures a b m n (asksLevel p) la lb needed
     own (c .before .before .before .before .before .before .before .before .before .before .row .ensures ∙ shape .asks))
-    (others-wall (args .mask) roles pipeline (bit (args .mask) wallRule && (rivals (getD (k .firms) (at .person) 0) class (e .firm) &&
-    asked)) _ _
-    (not-in-force (bit (args .mask) wallRule) _ 2 wall)))
+    (without-roles (args .mask) roles _ _ _ (not-in-force (bit (args .mask) wallRule) _ 2 wall)
+    (not-in-force (bit (args .mask) pipelineRule) _ 32 pipeline)))
     (λ p g asked shape all counted.
     record {
       history = c .before .before .before .before .before .set-bit .ensures g all;
-      added = added-wall (args .mask) roles pipeline g asked (g && isStep p) steps at (e .firm) (getD holders x 0) firms holding done
-          next (rw wall);
+      added =
+          record {
+            firms = rw wall;
+            holding = rw roles;
+            done = rw pipeline (either-way (g && isStep p) done);
+            next = rw pipeline (either-way (g && isStep p) next);
+          };
       levels =
           ap (set (args .sets .now) (at .person))
           (c .before .narrowed .ensures (g && lowers p)

@@ -2,19 +2,20 @@
 -- are in force.
 use borrow.Author.Needs.{needs}
 use native.Mathlib.Omega.{arith}
-use mathlib.Core.Path.{refl, ap, _∙_}
-use mathlib.Core.Bool.{cond, not, _&&_}
+use mathlib.Core.Path.{refl, sym, ap, _∙_}
+use mathlib.Core.Bool.{not, _&&_}
+use lib.Bits.{or-zero-r}
 use lib.ListN.{getD, set}
 use Rattle.bits.specs.Bits.{bit}
-use Rattle.policy.specs.Tables.{wallRule, rolesRule, pipelineRule}
+use Rattle.policy.specs.Tables.{rolesRule, pipelineRule}
 use Rattle.policy.specs.Request.{hasPlace}
 use Rattle.keeping.specs.Kinds.{askedBy, rightBy, isAccess, isStep, lowers, asksLevel}
-use Rattle.keeping.specs.Failing.{failingOf, rivals}
+use Rattle.keeping.specs.Failing.{failingOf}
 use Rattle.keeping.specs.Keeping.{kept}
 use Rattle.keeping.proofs.KindLaws.{row-of}
-use Rattle.keeping.proofs.FailingLaws.{negated, no-rights-no-steps}
-use Rattle.keeping.proofs.UpdateLaws.{masked-all}
-use Rattle.keeping.proofs.FewerLaws.{others-wall, added-wall}
+use Rattle.keeping.proofs.FailingLaws.{negated, not-in-force}
+use Rattle.keeping.proofs.UpdateLaws.{masked-all, either-way}
+use Rattle.keeping.proofs.FewerLaws.{not-among, without-roles}
 use Rattle.keeping.proofs.Puts.{placed-at, found-at}
 use Rattle.keeping.proofs.fewer.put_by_wall.Statement.{statement}
 use Rattle.keeping.proofs.fewer.put_by_wall.Tie as tie
@@ -32,66 +33,53 @@ use Rattle.keeping.proofs.updates.keep_firm.Reads as keep-firm-reads
 use Rattle.keeping.proofs.updates.narrowed.Reads as narrowed-reads
 use Rattle.keeping.proofs.updates.set_bit.Reads as set-bit-reads
 
--- src/fewer.rt:78:9
 place-requires : tie.Need-place-requires
 place-requires c κs = search needs
 
--- src/fewer.rt:81:48
 row-requires : tie.Need-row-requires
 row-requires c κs = search needs
 
--- src/fewer.rt:81:9
 counts-requires : tie.Need-counts-requires
 counts-requires c κs = search needs
 
--- src/fewer.rt:82:9
 wide-requires : tie.Need-wide-requires
 wide-requires c κs = search needs
 
--- src/fewer.rt:83:18
 mul-needed : tie.Need-mul-needed
 mul-needed c = let l = placed-at (c .before .before .before .before .before .args .r) (c .before .before .before .before .before .pre .3)
     (c .before .before .before .before .before .pre .4) (c .before .before .before .place .ensures .1) (c .before .before .before .place
     .ensures .0) .setBelow in omega (arith, l)
 
--- src/fewer.rt:83:18
 element-copy-out-needed : tie.Need-element-copy-out-needed
 element-copy-out-needed c = let l = placed-at (c .before .before .before .before .before .args .r) (c .before .before .before .before
     .before .pre .3) (c .before .before .before .before .before .pre .4) (c .before .before .before .place .ensures .1) (c .before
     .before .before .place .ensures .0) .setBelow in omega (arith, l)
 
--- src/fewer.rt:84:15
 mul-own : tie.Need-mul-own
 mul-own c = let l = placed-at (c .before .before .before .before .before .before .args .r) (c .before .before .before .before .before
     .before .pre .3) (c .before .before .before .before .before .before .pre .4) (c .before .before .before .before .place .ensures .1)
     (c .before .before .before .before .place .ensures .0) .personBelow in omega (arith, l)
 
--- src/fewer.rt:84:15
 element-copy-out-own : tie.Need-element-copy-out-own
 element-copy-out-own c = let l = placed-at (c .before .before .before .before .before .before .args .r) (c .before .before .before
     .before .before .before .pre .3) (c .before .before .before .before .before .before .pre .4) (c .before .before .before .before
     .place .ensures .1) (c .before .before .before .before .place .ensures .0) .personBelow in omega (arith, l)
 
--- src/fewer.rt:85:9
 unknown-check-requires : tie.Need-unknown-check-requires
 unknown-check-requires c κs = search needs
 
--- src/fewer.rt:86:9
 row-requires-2 : tie.Need-row-requires-2
 row-requires-2 c κs = search needs
 
--- src/fewer.rt:87:9
 level-check-requires : tie.Need-level-check-requires
 level-check-requires c κs = search needs
 
--- src/fewer.rt:88:41
 mul-wall-check : tie.Need-mul-wall-check
 mul-wall-check c = let l = placed-at (c .before .before .before .before .before .before .before .before .before .before .args .r) (c
     .before .before .before .before .before .before .before .before .before .before .pre .3) (c .before .before .before .before .before
     .before .before .before .before .before .pre .4) (c .before .before .before .before .before .before .before .before .place .ensures
     .1) (c .before .before .before .before .before .before .before .before .place .ensures .0) .personBelow in omega (arith, l)
 
--- src/fewer.rt:88:41
 element-copy-out-wall-check : tie.Need-element-copy-out-wall-check
 element-copy-out-wall-check c = let l = placed-at (c .before .before .before .before .before .before .before .before .before .before
     .args .r) (c .before .before .before .before .before .before .before .before .before .before .pre .3) (c .before .before .before
@@ -99,23 +87,18 @@ element-copy-out-wall-check c = let l = placed-at (c .before .before .before .be
     .place .ensures .1) (c .before .before .before .before .before .before .before .before .place .ensures .0) .personBelow in omega
     (arith, l)
 
--- src/fewer.rt:88:9
 wall-check-requires : tie.Need-wall-check-requires
 wall-check-requires c κs = search needs
 
--- src/fewer.rt:89:9
 first-check-requires : tie.Need-first-check-requires
 first-check-requires c κs = search needs
 
--- src/fewer.rt:90:15
 mul-all : tie.Need-mul-all
 mul-all c = search needs
 
--- src/fewer.rt:90:15
 element-copy-out-all : tie.Need-element-copy-out-all
 element-copy-out-all c = search needs
 
--- src/fewer.rt:91:5
 set-bit-requires : tie.Need-set-bit-requires
 set-bit-requires c κs = (
   c .before .before .before .before .before .before .before .before .before .before .before .before .before
@@ -128,15 +111,12 @@ set-bit-requires c κs = (
       .before .place .ensures .0) .indexBelow,
 )
 
--- src/fewer.rt:92:52
 row-requires-3 : tie.Need-row-requires-3
 row-requires-3 c κs = search needs
 
--- src/fewer.rt:92:15
 narrowed-requires : tie.Need-narrowed-requires
 narrowed-requires c κs = search needs
 
--- src/fewer.rt:92:5
 mul-sets : tie.Need-mul-sets
 mul-sets c = let l = placed-at (c .before .before .before .before .before .before .before .before .before .before .before .before .before
     .before .before .before .before .before .before .before .args .r) (c .before .before .before .before .before .before .before .before
@@ -146,7 +126,6 @@ mul-sets c = let l = placed-at (c .before .before .before .before .before .befor
     .before .before .before .before .place .ensures .1) (c .before .before .before .before .before .before .before .before .before
     .before .before .before .before .before .before .before .before .before .place .ensures .0) .personBelow in omega (arith, l)
 
--- src/fewer.rt:92:5
 element-write-sets : tie.Need-element-write-sets
 element-write-sets c = let l = placed-at (c .before .before .before .before .before .before .before .before .before .before .before
     .before .before .before .before .before .before .before .before .before .args .r) (c .before .before .before .before .before .before
@@ -157,7 +136,6 @@ element-write-sets c = let l = placed-at (c .before .before .before .before .bef
     .before .before .before .before .before .before .before .before .before .before .before .place .ensures .0) .personBelow in omega
     (arith, l)
 
--- src/fewer.rt:93:5
 keep-firm-requires : tie.Need-keep-firm-requires
 keep-firm-requires c κs = (
   c .before .before .before .before .before .before .before .before .before .before .before .before .before
@@ -172,15 +150,12 @@ keep-firm-requires c κs = (
       .before .before .before .before .before .place .ensures .0) .personBelow,
 )
 
--- src/fewer.rt:94:5
 element-copy-out-result : tie.Need-element-copy-out-result
 element-copy-out-result c = search needs
 
--- src/fewer.rt:55:1
 same-length : tie.Need-same-length
 same-length c = search needs
 
--- src/fewer.rt:55:1
 returns : tie.Need-returns
 unfolding failingOf
 returns c =
@@ -195,7 +170,8 @@ returns c =
     let q = askedBy (r .kind) (r .person) (r .target) (r .step) in
     let x = rightBy (r .kind) ((args .folder) .kind) (at .step) in
     let k = kept (args .firms .now) holding done next (args .sets .now) in
-    let (roles, pipeline) = no-rights-no-steps (args .mask) (start .pre .8) in
+    let roles = not-among (args .mask) 12 rolesRule (start .pre .8) refl in
+    let pipeline = not-among (args .mask) 12 pipelineRule (start .pre .8) refl in
     let row = row-of (r .kind) (r .person) (r .target) (r .step) (start .pre .3) (start .pre .4) in
     let first = c .before .before .before .before .before .before .before .before .before .before .first-check in
     found-at t (args .h .now) l (start .pre .5) (args .mask) (r .kind) (r .person) (r .target) (r .step) (start .pre .3) (start .pre .4)
@@ -217,15 +193,20 @@ returns c =
     (c .before .before .before .before .before .before .before .before .before .before .before .before .before .level-check .ensures a b
     m n (asksLevel p) la lb needed own (c .before .before .before .before .before .before .before .before .before .before .before .before
     .before .before .row2 .ensures ∙ shape .asks))
-    (others-wall (args .mask) roles pipeline _ _ _ (c .before .before .before .before .before .before .before .before .before .before
-    .before .wall-check .ensures asked counted)))
+    (sym (or-zero-r _)
+    ∙ without-roles (args .mask) roles _ _ _
+    (c .before .before .before .before .before .before .before .before .before .before .before .wall-check .ensures asked counted)
+    (not-in-force (bit (args .mask) pipelineRule) _ 32 pipeline)))
     (λ p g asked shape all counted.
     record {
       history = c .before .before .before .before .before .before .before .set-bit .ensures g all;
-      added = added-wall (args .mask) roles pipeline g asked (g && isStep p) steps at (c .before .before .before .before .before .before
-          .before .before .before .before .before .before .before .before .before .before .before .before .wide .result) (getD holders x 0)
-          (args .firms .now) holding done next
-          (c .before .keep-firm .ensures g asked all counted);
+      added =
+          record {
+            firms = c .before .keep-firm .ensures g asked all counted;
+            holding = rw roles;
+            done = rw pipeline (either-way (g && isStep p) done);
+            next = rw pipeline (either-way (g && isStep p) next);
+          };
       levels =
           ap (set (args .sets .now) (at .person))
           (c .before .before .before .narrowed .ensures (g && lowers p)

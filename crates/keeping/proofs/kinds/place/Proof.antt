@@ -1,3 +1,4 @@
+-- `place` has the numbers that the row of the kind gives: each row holds small numbers, so that no product or sum leaves its width.
 use Prim.Native.Nat.{_/_}
 use native.Mathlib.Omega.{arith}
 use mathlib.Core.Path.{_≡_, refl}
@@ -13,47 +14,36 @@ use Rattle.bits.proofs.one_if.Reads as one-if-reads
 use Rattle.bits.proofs.wide.Reads as wide-reads
 use Rattle.keeping.proofs.kinds.row.Reads as row-reads
 
--- src/kinds.rt:60:9
 wide-requires : tie.Need-wide-requires
 wide-requires c κs = search needs
 
--- src/kinds.rt:61:9
 wide-requires-2 : tie.Need-wide-requires-2
 wide-requires-2 c κs = search needs
 
--- src/kinds.rt:62:9
 wide-requires-3 : tie.Need-wide-requires-3
 wide-requires-3 c κs = search needs
 
--- src/kinds.rt:64:22
 row-requires : tie.Need-row-requires
 row-requires c κs = search needs
 
--- src/kinds.rt:65:21
 row-requires-2 : tie.Need-row-requires-2
 row-requires-2 c κs = search needs
 
--- src/kinds.rt:66:28
 row-requires-3 : tie.Need-row-requires-3
 row-requires-3 c κs = search needs
 
--- src/kinds.rt:67:17
 row-requires-4 : tie.Need-row-requires-4
 row-requires-4 c κs = search needs
 
--- src/kinds.rt:68:21
 row-requires-5 : tie.Need-row-requires-5
 row-requires-5 c κs = search needs
 
--- src/kinds.rt:69:20
 row-requires-6 : tie.Need-row-requires-6
 row-requires-6 c κs = search needs
 
--- src/kinds.rt:74:14
 row-requires-7 : tie.Need-row-requires-7
 row-requires-7 c κs = search needs
 
--- src/kinds.rt:74:14
 add-t16 : tie.Need-add-t16
 add-t16 c =
     omega (
@@ -65,7 +55,6 @@ add-t16 c =
       c .before .before .before .before .before .before .before .before .wide2 .ensures .1,
     )
 
--- src/kinds.rt:75:24
 mul-t17 : tie.Need-mul-t17
 mul-t17 c =
     let m = product-most (c .before .before .row5 .result) (bitAnd (c .before .before .before .before .before .before .before .before
@@ -84,7 +73,6 @@ mul-t17 c =
     )) in
     omega (arith, m)
 
--- src/kinds.rt:75:16
 add-t18 : tie.Need-add-t18
 add-t18 c =
     let m = product-most (c .before .before .row5 .result) (bitAnd (c .before .before .before .before .before .before .before .before
@@ -109,7 +97,6 @@ add-t18 c =
           .before .before .before .args .r .kind),
     )
 
--- src/kinds.rt:75:45
 mul-t19 : tie.Need-mul-t19
 mul-t19 c =
     let n = product-most (c .before .row6 .result) (bitAnd (c .before .before .before .before .before .before .before .before .wide2
@@ -128,7 +115,6 @@ mul-t19 c =
     )) in
     omega (arith, n)
 
--- src/kinds.rt:75:16
 add-t20 : tie.Need-add-t20
 add-t20 c =
     let m = product-most (c .before .before .row5 .result) (bitAnd (c .before .before .before .before .before .before .before .before
@@ -168,7 +154,6 @@ add-t20 c =
           .before .before .before .args .r .kind),
     )
 
--- src/kinds.rt:75:64
 mul-t21 : tie.Need-mul-t21
 mul-t21 c = omega (
   arith,
@@ -177,7 +162,6 @@ mul-t21 c = omega (
   c .before .before .before .before .before .before .before .wide3 .ensures .1,
 )
 
--- src/kinds.rt:75:16
 add-t22 : tie.Need-add-t22
 add-t22 c =
     let m = product-most (c .before .before .row5 .result) (bitAnd (c .before .before .before .before .before .before .before .before
@@ -220,20 +204,16 @@ add-t22 c =
       c .before .before .before .before .before .before .before .wide3 .ensures .1,
     )
 
--- src/kinds.rt:76:32
 sub-one-if : tie.Need-sub-one-if
 sub-one-if c = and-le-l (c .before .before .before .before .before .before .before .before .before .wide .result) 63
 
--- src/kinds.rt:76:47
 sub-one-if-2 : tie.Need-sub-one-if-2
 sub-one-if-2 c = and-le-l (c .before .before .before .before .before .before .before .before .wide2 .result) (c .before .before .before
     .before .before .before .row .result)
 
--- src/kinds.rt:76:31
 add-one-if : tie.Need-add-one-if
 add-one-if c = search needs
 
--- src/kinds.rt:76:31
 add-one-if-2 : tie.Need-add-one-if-2
 add-one-if-2 c =
     omega (
@@ -245,11 +225,9 @@ add-one-if-2 c =
           .result),
     )
 
--- src/kinds.rt:76:18
 one-if-requires : tie.Need-one-if-requires
 one-if-requires c κs = search needs
 
--- src/kinds.rt:55:1
 returns : tie.Need-returns
 unfolding placedBy
 returns c = (

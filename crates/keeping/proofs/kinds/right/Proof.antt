@@ -12,23 +12,18 @@ use Rattle.keeping.proofs.kinds.right.Lts as lts
 use Rattle.bits.proofs.wide.Reads as wide-reads
 use Rattle.keeping.proofs.kinds.row.Reads as row-reads
 
--- src/kinds.rt:85:17
 row-requires : tie.Need-row-requires
 row-requires c κs = search needs
 
--- src/kinds.rt:86:19
 row-requires-2 : tie.Need-row-requires-2
 row-requires-2 c κs = search needs
 
--- src/kinds.rt:87:5
 add-result : tie.Need-add-result
 add-result c = omega (arith, c .before .row .ensures, first-right-most (c .before .before .args .kind), c .before .before .pre .3)
 
--- src/kinds.rt:87:18
 wide-requires : tie.Need-wide-requires
 wide-requires c κs = search needs
 
--- src/kinds.rt:87:5
 add-result-2 : tie.Need-add-result-2
 add-result-2 c =
     omega (
@@ -40,7 +35,6 @@ add-result-2 c =
       c .wide .ensures .1,
     )
 
--- src/kinds.rt:81:1
 returns : tie.Need-returns
 unfolding rightBy
 returns c = rw (c .before .before .row .ensures, c .before .row2 .ensures, c .wide .ensures .0)

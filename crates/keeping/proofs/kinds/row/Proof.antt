@@ -8,27 +8,21 @@ use Rattle.keeping.proofs.kinds.row.Reads as reads
 use Rattle.keeping.proofs.kinds.row.Lts as lts
 use Rattle.bits.proofs.wide.Reads as wide-reads
 
--- src/kinds.rt:40:16
 wide-requires : tie.Need-wide-requires
 wide-requires c κs = search needs
 
--- src/kinds.rt:40:10
 mul-result : tie.Need-mul-result
 mul-result c = search needs
 
--- src/kinds.rt:40:10
 add-result : tie.Need-add-result
 add-result c = search needs
 
--- src/kinds.rt:40:5
 mul-result-2 : tie.Need-mul-result-2
 mul-result-2 c = search needs
 
--- src/kinds.rt:40:5
 element-copy-out-result : tie.Need-element-copy-out-result
 element-copy-out-result c = search needs
 
--- src/kinds.rt:36:1
 returns : tie.Need-returns
 unfolding rowOf
 returns c = rw (c .before .before .pre .0, c .before .wide .ensures .0)

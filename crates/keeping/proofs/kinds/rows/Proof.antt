@@ -6,7 +6,6 @@ use Rattle.keeping.proofs.kinds.rows.Tie as tie
 use Rattle.keeping.proofs.kinds.rows.Reads as reads
 use Rattle.keeping.proofs.kinds.rows.Lts as lts
 
--- src/kinds.rt:24:1
 returns : tie.Need-returns
 unfolding kindRows
 returns c = refl

@@ -12,31 +12,24 @@ use Rattle.keeping.proofs.updates.keep_firm.Reads as reads
 use Rattle.keeping.proofs.updates.keep_firm.Lts as lts
 use Rattle.bits.proofs.bit8.Reads as bit8-reads
 
--- src/updates.rt:44:8
 bit8-requires : tie.Need-bit8-requires
 bit8-requires c κs = search needs
 
--- src/updates.rt:45:20
 mul-firms : tie.Need-mul-firms
 mul-firms c = search needs
 
--- src/updates.rt:45:20
 element-copy-out-firms : tie.Need-element-copy-out-firms
 element-copy-out-firms c = search needs
 
--- src/updates.rt:45:32
 shl-firms : tie.Need-shl-firms
 shl-firms c = mask-lt (c .before .before .before .args .firm) 6
 
--- src/updates.rt:45:9
 mul-firms-2 : tie.Need-mul-firms-2
 mul-firms-2 c = search needs
 
--- src/updates.rt:45:9
 element-write-firms : tie.Need-element-write-firms
 element-write-firms c = search needs
 
--- src/updates.rt:33:1
 returns : tie.Need-returns
 returns c =
     λ b counted e f.
@@ -45,7 +38,6 @@ returns c =
     rw (sym (c .before .before .bit8 .ensures) ∙ c .before .if1 .taken)
     (ap (set (args .firms .now) (args .s)) (with-masked-bit-if 6 own (args .firm) _ (b && counted) (masked-one b counted e f)))
 
--- src/updates.rt:33:1
 returns-2 : tie.Need-returns-2
 returns-2 c = λ b counted e f. rw (sym (c .before .bit8 .ensures) ∙ c .if1 .left)
 

@@ -9,31 +9,24 @@ use Rattle.keeping.proofs.updates.keep_roles.Lts as lts
 use Rattle.bits.proofs.bit8.Reads as bit8-reads
 use Rattle.keeping.proofs.updates.narrowed.Reads as narrowed-reads
 
--- src/updates.rt:61:8
 bit8-requires : tie.Need-bit8-requires
 bit8-requires c κs = search needs
 
--- src/updates.rt:62:31
 mul-narrowed : tie.Need-mul-narrowed
 mul-narrowed c = search needs
 
--- src/updates.rt:62:31
 element-copy-out-narrowed : tie.Need-element-copy-out-narrowed
 element-copy-out-narrowed c = search needs
 
--- src/updates.rt:62:22
 narrowed-requires : tie.Need-narrowed-requires
 narrowed-requires c κs = search needs
 
--- src/updates.rt:62:9
 mul-holding : tie.Need-mul-holding
 mul-holding c = search needs
 
--- src/updates.rt:62:9
 element-write-holding : tie.Need-element-write-holding
 element-write-holding c = search needs
 
--- src/updates.rt:50:1
 returns : tie.Need-returns
 returns c =
     λ b e.
@@ -41,7 +34,6 @@ returns c =
     rw (sym (c .before .before .before .bit8 .ensures) ∙ c .before .before .if1 .taken)
     (ap (set (args .holding .now) (args .s)) (c .narrowed .ensures b e))
 
--- src/updates.rt:50:1
 returns-2 : tie.Need-returns-2
 returns-2 c = λ b e. rw (sym (c .before .bit8 .ensures) ∙ c .if1 .left)
 

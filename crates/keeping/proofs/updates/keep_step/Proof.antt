@@ -10,58 +10,45 @@ use Rattle.bits.proofs.bit8.Reads as bit8-reads
 use Rattle.bits.proofs.with_bit64.Reads as with-bit64-reads
 use Rattle.pipeline.proofs.next_steps.Reads as next-steps-reads
 
--- src/updates.rt:84:8
 bit8-requires : tie.Need-bit8-requires
 bit8-requires c κs = search needs
 
--- src/updates.rt:86:41
 mul-with-bit64 : tie.Need-mul-with-bit64
 mul-with-bit64 c = search needs
 
--- src/updates.rt:86:41
 element-copy-out-with-bit64 : tie.Need-element-copy-out-with-bit64
 element-copy-out-with-bit64 c = search needs
 
--- src/updates.rt:86:17
 with-bit64-requires : tie.Need-with-bit64-requires
 with-bit64-requires c κs = search needs
 
--- src/updates.rt:87:13
 mul-done : tie.Need-mul-done
 mul-done c = search needs
 
--- src/updates.rt:87:13
 element-write-done : tie.Need-element-write-done
 element-write-done c = search needs
 
--- src/updates.rt:88:51
 cast-next-steps : tie.Need-cast-next-steps
 cast-next-steps c = search needs
 
--- src/updates.rt:88:23
 next-steps-requires : tie.Need-next-steps-requires
 next-steps-requires c κs = search needs
 
--- src/updates.rt:88:13
 mul-next : tie.Need-mul-next
 mul-next c = search needs
 
--- src/updates.rt:88:13
 element-write-next : tie.Need-element-write-next
 element-write-next c = search needs
 
--- src/updates.rt:67:1
 returns : tie.Need-returns
 returns c =
     λ b e.
     let on = sym (c .before .before .before .before .before .bit8 .ensures) ∙ c .before .before .before .before .if1 .taken in
     rw (made-one b e (c .before .before .before .if2 .taken), on, c .next-steps .ensures, c .before .with-bit64 .ensures) (refl, refl)
 
--- src/updates.rt:67:1
 returns-2 : tie.Need-returns-2
 returns-2 c = λ b e. rw (made-none b e (c .if2 .left)) (refl, refl)
 
--- src/updates.rt:67:1
 returns-3 : tie.Need-returns-3
 returns-3 c =
     λ b e.

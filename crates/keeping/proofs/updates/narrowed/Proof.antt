@@ -7,11 +7,9 @@ use Rattle.keeping.proofs.updates.narrowed.Tie as tie
 use Rattle.keeping.proofs.updates.narrowed.Reads as reads
 use Rattle.keeping.proofs.updates.narrowed.Lts as lts
 
--- src/updates.rt:17:21
 sub-result : tie.Need-sub-result
 sub-result c = search needs
 
--- src/updates.rt:14:1
 returns : tie.Need-returns
 returns c = λ b e. narrow b (c .args .set) (c .args .other) (omega arith) (omega arith) e
 

@@ -10,31 +10,24 @@ use Rattle.keeping.proofs.updates.set_bit.Tie as tie
 use Rattle.keeping.proofs.updates.set_bit.Reads as reads
 use Rattle.keeping.proofs.updates.set_bit.Lts as lts
 
--- src/updates.rt:28:15
 cast-one : tie.Need-cast-one
 cast-one c = omega (arith, mask-lt (c .args .all) 1)
 
--- src/updates.rt:29:13
 slice-read-h : tie.Need-slice-read-h
 slice-read-h c = search needs
 
--- src/updates.rt:29:30
 cast-h : tie.Need-cast-h
 cast-h c = omega (arith, mask-lt (c .before .args .i) 3)
 
--- src/updates.rt:29:22
 shl-h : tie.Need-shl-h
 shl-h c = mask-lt (c .before .args .i) 3
 
--- src/updates.rt:29:5
 slice-write-h : tie.Need-slice-write-h
 slice-write-h c = search needs
 
--- src/updates.rt:21:1
 same-length : tie.Need-same-length
 same-length c = search needs
 
--- src/updates.rt:21:1
 returns : tie.Need-returns
 returns c = λ b e. set-if b (c .before .args .h .now) (c .before .args .i) _ (masked-one b true e refl ∙ and-true b)
 

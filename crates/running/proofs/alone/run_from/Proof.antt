@@ -32,7 +32,6 @@ Inv-loop h₀ l₀ requests answers₀ t at₀ i₀ granted₀ h l answers at i 
 abbrev μ-loop : tie.MeasureT-loop
 μ-loop h₀ l₀ requests answers₀ t at₀ i₀ granted₀ h l answers at i granted = length requests - at
 
--- src/alone.rt:82:5
 loop-holds : tie.Need-loop-holds Inv-loop μ-loop
 loop-holds c = (
   c .before .before .before .before .pre .1,
@@ -42,46 +41,36 @@ loop-holds c = (
       done,
 )
 
--- src/alone.rt:83:37
 sub-parse : tie.Need-sub-parse Inv-loop μ-loop
 sub-parse c = search needs
 
--- src/alone.rt:83:37
 part-parse-start : tie.Need-part-parse-start Inv-loop μ-loop
 part-parse-start c = search needs
 
--- src/alone.rt:83:37
 part-parse-end : tie.Need-part-parse-end Inv-loop μ-loop
 part-parse-end c = search needs
 
--- src/alone.rt:83:13
 parse-requires : tie.Need-parse-requires Inv-loop μ-loop
 parse-requires c κs = search needs
 
--- src/alone.rt:84:13
 judge-requires : tie.Need-judge-requires Inv-loop μ-loop
 judge-requires c κs = c .before .before .before .before .before .loop .inv .2
 
--- src/alone.rt:85:32
 wide-requires : tie.Need-wide-requires Inv-loop μ-loop
 wide-requires c κs = search needs
 
--- src/alone.rt:85:22
 mul-folder : tie.Need-mul-folder Inv-loop μ-loop
 mul-folder c = search needs
 
--- src/alone.rt:85:22
 element-copy-out-folder : tie.Need-element-copy-out-folder Inv-loop μ-loop
 element-copy-out-folder c = search needs
 
--- src/alone.rt:86:9
 record-if-granted-requires : tie.Need-record-if-granted-requires Inv-loop μ-loop
 record-if-granted-requires c κs = (
   c .before .before .before .before .before .before .before .before .before .before .loop .inv .2 .held,
   granted-fits _ _ _ _ (c .before .before .before .before .judge .ensures),
 )
 
--- src/alone.rt:87:9
 slice-write-answers : tie.Need-slice-write-answers Inv-loop μ-loop
 slice-write-answers c =
     let start = c .before .before .before .before .before .before .before .before .before .before .before .before .before .before .before
@@ -95,7 +84,6 @@ slice-write-answers c =
     let room = looped .inv .0 in
     omega (arith, room .enough, looped .inv .1, due-at requests (looped .at) below)
 
--- src/alone.rt:88:9
 add-i : tie.Need-add-i Inv-loop μ-loop
 add-i c =
     let start = c .before .before .before .before .before .before .before .before .before .before .before .before .before .before .before
@@ -109,11 +97,9 @@ add-i c =
     let room = looped .inv .0 in
     omega (arith, fits, below, room .further)
 
--- src/alone.rt:89:20
 granted-by-requires : tie.Need-granted-by-requires Inv-loop μ-loop
 granted-by-requires c κs = search needs
 
--- src/alone.rt:89:9
 add-granted : tie.Need-add-granted Inv-loop μ-loop
 add-granted c =
     let start = c .before .before .before .before .before .before .before .before .before .before .before .before .before .before .before
@@ -129,7 +115,6 @@ add-granted c =
     .granted-by .ensures) in
     omega (arith, fits, below, room .further, room .grants, one)
 
--- src/alone.rt:90:9
 add-at : tie.Need-add-at Inv-loop μ-loop
 add-at c =
     let start = c .before .before .before .before .before .before .before .before .before .before .before .before .before .before .before
@@ -145,7 +130,6 @@ add-at c =
     .before .before .parse .ensures) in
     omega (arith, fits, parsed .onward, next-at-within requests (looped .at) below)
 
--- src/alone.rt:82:5
 loop-less : tie.Need-loop-less Inv-loop μ-loop
 loop-less c =
     let start = c .before .before .before .before .before .before .before .before .before .before .before .before .before .before .before
@@ -161,7 +145,6 @@ loop-less c =
     .before .before .parse .ensures) in
     omega (arith, below, parsed .onward, next-at-within requests (looped .at) below, next-at-further requests (looped .at) below)
 
--- src/alone.rt:82:5
 loop-again : tie.Need-loop-again Inv-loop μ-loop
 loop-again c =
     let start = c .before .before .before .before .before .before .before .before .before .before .before .before .before .before .before
@@ -192,23 +175,18 @@ loop-again c =
           (omega (arith, room .enough, same, due-at requests (looped .at) below)) turn (c .before .granted-by .ensures),
     )
 
--- src/alone.rt:92:19
 sub-refused : tie.Need-sub-refused Inv-loop μ-loop
 sub-refused c = c .before .loop .inv .0 .grants
 
--- src/alone.rt:63:1
 same-length : tie.Need-same-length Inv-loop μ-loop
 same-length c = c .before .loop .inv .2 .size ∙ sym (c .before .before .before .before .before .before .pre .0 .size)
 
--- src/alone.rt:63:1
 same-length-2 : tie.Need-same-length-2 Inv-loop μ-loop
 same-length-2 c = c .before .loop .inv .2 .held ∙ sym (c .before .before .before .before .before .before .pre .0 .held)
 
--- src/alone.rt:63:1
 same-length-3 : tie.Need-same-length-3 Inv-loop μ-loop
 same-length-3 c = c .before .loop .inv .1
 
--- src/alone.rt:63:1
 returns : tie.Need-returns Inv-loop μ-loop
 returns c = λ a room same begun. done-all (c .before .loop .inv .3 a room same begun) (omega arith)
 

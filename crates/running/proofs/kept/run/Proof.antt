@@ -1,4 +1,4 @@
--- `run` gathers what the run keeps, comes as far as `run_by` does, and stores the levels that the sets kept are those of.
+-- `run` gathers what the run keeps, puts the whole records as `run_by` does, and stores the levels that the sets kept are those of.
 use borrow.Author.Needs.{needs}
 use Rattle.levels.proofs.SetLaws.{sets-held}
 use Rattle.running.proofs.KeptTurns.{kept-stored}
@@ -16,41 +16,34 @@ use Rattle.levels.proofs.sets.store.Reads as store-reads
 use Rattle.rules.proofs.classes.Reads as classes-reads
 use Rattle.running.proofs.kept.run_by.Reads as run-by-reads
 
--- src/kept.rt:105:19
 holders-requires : tie.Need-holders-requires
 holders-requires c κs = search needs
 
--- src/kept.rt:106:19
 classes-requires : tie.Need-classes-requires
 classes-requires c κs = search needs
 
--- src/kept.rt:107:21
 firms-requires : tie.Need-firms-requires
 firms-requires c κs = search needs
 
--- src/kept.rt:108:23
 holding-requires : tie.Need-holding-requires
 holding-requires c κs = search needs
 
--- src/kept.rt:109:20
 done-requires : tie.Need-done-requires
 done-requires c κs = search needs
 
--- src/kept.rt:110:20
 next-requires : tie.Need-next-requires
 next-requires c κs = search needs
 
--- src/kept.rt:111:20
 gather-requires : tie.Need-gather-requires
 gather-requires c κs = search needs
 
--- src/kept.rt:112:9
 run-by-requires : tie.Need-run-by-requires
 run-by-requires c κs =
     let start = c .before .before .before .before .before .before .before .before .before .before .before .before .before .before .before
     .before .before .before .before .before .before .before .before .before .before .before in (
       start .pre .0,
       start .pre .1,
+      start .pre .2,
       c .before .before .before .before .before .before .before .before .before .before .before .before .before .before .before .before
           .before .before .before .before .before .holders .ensures,
       c .before .before .before .before .before .before .before .before .before .before .before .before .before .before .before .before
@@ -68,23 +61,18 @@ run-by-requires c κs =
       },
     )
 
--- src/kept.rt:126:5
 store-requires : tie.Need-store-requires
 store-requires c κs = search needs
 
--- src/kept.rt:98:1
 same-length : tie.Need-same-length
 same-length c = search needs
 
--- src/kept.rt:98:1
 same-length-2 : tie.Need-same-length-2
 same-length-2 c = search needs
 
--- src/kept.rt:98:1
 same-length-3 : tie.Need-same-length-3
 same-length-3 c = search needs
 
--- src/kept.rt:98:1
 returns : tie.Need-returns
 returns c =
     let kept = c .before .before .before .before .before .before .before .before .before .run-by .ensures in
