@@ -71,6 +71,11 @@ pub placed-at : (r : Parsed) {x : Placed} → 15 < r .kind → r .kind < 20 → 
     → PlacedAs (askedBy (r .kind) (r .person) (r .target) (r .step)) x
 placed-at r low high small e = rw e (placed-as (r .kind) (r .person) (r .target) (r .step) low high small)
 
+-- the right that a request uses is one of 64
+pub right-in : (r : Parsed) (f : ℕ) {x : Placed} {n : ℕ} → 15 < r .kind → r .kind < 20
+    → x ≡ placedBy (r .kind) (r .person) (r .target) (r .step) → n ≡ rightBy (r .kind) f (x .step) → n < 64
+right-in r f low high e is = rw (is, e) (right-small (r .kind) (r .person) (r .target) (r .step) f low high)
+
 -- what is kept, part by part
 parts : {firms firms′ holding holding′ done done′ next next′ sets sets′ : List ℕ} → firms ≡ firms′ → holding ≡ holding′
     → done ≡ done′ → next ≡ next′ → sets ≡ sets′ → kept firms holding done next sets ≡ kept firms′ holding′ done′ next′ sets′

@@ -138,3 +138,46 @@ pub fn put_by_steps(
     updates::keep_step(mask, steps, done, next, o, at.step, all & step);
     numbers[first]
 }
+
+// Puts a request where neither the wall nor the pipeline are in force.
+pub fn put_by_roles(
+    mask: u8,
+    rows: &[u64; 64],
+    numbers: &[u8; 8],
+    grants: &[u64; 8],
+    holders: &[u64; 64],
+    folder: Folder,
+    holding: &mut [u64; 64],
+    sets: &mut [u64; 192],
+    h: &mut [u8],
+    r: Parsed,
+) -> u8
+    requires { ⌜
+        (now rows ≡ kindRows) × (now numbers ≡ numberAt) × (now grants ≡ grantAt) × (15 < r .kind) × (r .kind < 20)
+        × (length (now h) ≡ historyBytes) × (length (now sets) ≡ 192) × (length (now holding) ≡ 64) × (bitAnd mask 9 ≡ 0)
+        ⌝ }
+    ensures { λ n. ⌜
+        ((steps firms done next : List ℕ) (class : ℕ)
+        → Puts mask (now (holders .entry)) steps folder class (now (h .entry))
+        (kept firms (now (holding .entry)) done next (now (sets .entry))) r n (now (h .exit))
+        (kept firms (now (holding .exit)) done next (now (sets .exit))))
+        ⌝ }
+{
+    let kind = r.kind;
+    let at = kinds::place(rows, r);
+    let s = at.person;
+    let target = at.set;
+    let held = holders[kinds::right(rows, kind, folder.kind, at.step)];
+    let needed = sets[target];
+    let own = sets[s];
+    let unknown = checks::unknown_check(at.outside, needed, own);
+    let asks = kinds::row(rows, kind, kinds::CHECKS);
+    let level = checks::level_check(mask, needed, own, asks);
+    let roles = checks::roles_check(mask, holding[s], held);
+    let first = checks::first_check(unknown, level, roles);
+    let all = grants[first];
+    updates::set_bit(h, at.index, all);
+    sets[s] = updates::narrowed(own, needed, all & kinds::row(rows, kind, kinds::LOWERS));
+    updates::keep_roles(mask, holding, s, held, all);
+    numbers[first]
+}

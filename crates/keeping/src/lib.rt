@@ -243,13 +243,15 @@ fn put_by_all(
     numbers[first]
 }
 
-// The rules that ask what persons did or what was done on folders; those of them that ask for rights or steps; and those that ask for
-// firms or rights.
+// The rules that ask what persons did or what was done on folders; and those of them that ask for rights or steps, for firms or rights, and
+// for firms or steps.
 const ASKING: u8 = 13;
 
 const BEYOND_WALL: u8 = 12;
 
 const BEYOND_STEPS: u8 = 5;
+
+const BEYOND_ROLES: u8 = 9;
 
 // Puts a request of one of the four kinds, and asks only for what the rules in force ask about.
 pub fn put(
@@ -298,6 +300,20 @@ pub fn put(
     }
     if mask & BEYOND_STEPS == 0 {
         return fewer::put_by_steps(mask, steps, rows, numbers, grants, done, next, sets, h, r);
+    }
+    if mask & BEYOND_ROLES == 0 {
+        return fewer::put_by_roles(
+            mask,
+            rows,
+            numbers,
+            grants,
+            holders,
+            folder,
+            holding,
+            sets,
+            h,
+            r,
+        );
     }
     put_by_all(
         mask,

@@ -13,10 +13,10 @@ use Rattle.keeping.specs.declared.kinds.Placed.{Placed}
 use Rattle.keeping.specs.Kinds.{placedBy, rightBy, askedBy, isAccess, PlacedAs}
 use Rattle.keeping.specs.Failing.{numberAt, grantAt, firstFailing}
 use Rattle.keeping.specs.Keeping.{Within, kept}
-use Rattle.keeping.proofs.KindLaws.{row-of, right-small}
+use Rattle.keeping.proofs.KindLaws.{row-of}
 use Rattle.keeping.proofs.FailingLaws.{granted-at}
 use Rattle.keeping.proofs.Known.{levelIn, markIn, set-at, level-small}
-use Rattle.keeping.proofs.Puts.{placed-at, found-at}
+use Rattle.keeping.proofs.Puts.{placed-at, found-at, right-in}
 use Rattle.levels.proofs.SetLaws.{level-lt}
 use Rattle.keeping.proofs.put_by_all.Statement.{statement}
 use Rattle.keeping.proofs.put_by_all.Tie as tie
@@ -29,11 +29,6 @@ use Rattle.keeping.proofs.judge.Reads as judge-reads
 use Rattle.keeping.proofs.kinds.place.Reads as place-reads
 use Rattle.keeping.proofs.kinds.right.Reads as right-reads
 use Rattle.keeping.proofs.kinds.row.Reads as row-reads
-
-right-in : (r : Parsed) (f : ℕ) {x : Placed} {n : ℕ} → 15 < r .kind → r .kind < 20 → x ≡ placedBy (r .kind) (r .person) (r .target) (r
-    .step)
-    → n ≡ rightBy (r .kind) f (x .step) → n < 64
-right-in r f low high e is = rw (is, e) (right-small (r .kind) (r .person) (r .target) (r .step) f low high)
 
 place-requires : tie.Need-place-requires
 place-requires c κs = search needs
