@@ -83,8 +83,9 @@ module _ {a b : ℕ} (sub : Within a b) where
   unfolding rolesIn covers
   fewer-held own e =
       let (k, l, c) = any-some 32 (λ k. covers (getD own k 0) b) e in
+      let rights = getD own k 0 in
       some-any 32 (λ k. covers (getD own k 0) a) k l
-      (eq-eqb _ _ (bit-subset a a (getD own k 0) (power-above a) (λ j m s. subset-bit b (getD own k 0) j (eqb-true _ _ c) (sub .member j s))))
+      (eq-eqb _ _ (bit-subset a a rights (power-above a) (λ j m s. subset-bit b rights j (eqb-true _ _ c) (sub .member j s))))
 
 within-none : (n : ℕ) → Within 0 n
 within-none n = record { member = λ k e. absurd (false-elim (bit 0 k) (bit-zero k) e) }

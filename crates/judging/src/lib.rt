@@ -1,7 +1,7 @@
 // Judging one request alone (document 01, "Requests and calls"), on tables that a load gives, a history of 18,944 bytes and 128 bytes of
 // levels: the checks 12 to 17, and 21 in the place of 15. Of the past only that is gathered which a rule in force asks about: for the wall
-// the folders of the request's class, for roles the rights that the person used, until no role holds them, for the pipeline the steps on the
-// folder; and nothing once a rule has refused.
+// the folders of the request's class, for roles the rights that the person used, until no role holds them, for the pipeline the steps on
+// the folder; and nothing once a rule has refused.
 ghost use mathlib.Core.Path.{_≡_};
 ghost use mathlib.Core.Bool.{true, cond};
 ghost use Prim.Native.Nat.{_%_};

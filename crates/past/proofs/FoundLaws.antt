@@ -1,5 +1,5 @@
--- The rights that a walk found, wherever it stopped: each folder only adds rights, so that those found are among the whole; and they are the
--- whole if a role still holds them and the new right.
+-- The rights that a walk found, wherever it stopped: each folder only adds rights, so that those found are among the whole; and they are
+-- the whole if a role still holds them and the new right.
 use Prim.Native.Nat.{ℕ, zero, suc, _+_, _≤_}
 use native.Mathlib.Omega.{arith}
 use mathlib.Core.Path.{_≡_, sym, ap, _∙_}
@@ -7,8 +7,8 @@ use mathlib.Core.Logic.{inl, inr, ⊎-elim}
 use mathlib.Core.Bool.{Bool, true, false, cond}
 use mathlib.Core.List.{List}
 use lib.Dec.{eqb}
-use Rattle.bits.specs.Bits.{bit, withBit, maskBelow, foldSet}
-use Rattle.bits.specs.Bounded.{anyBelow, foldBelow}
+use Rattle.bits.specs.Bits.{bit, withBit, foldSet}
+use Rattle.bits.specs.Bounded.{foldBelow}
 use Rattle.bits.proofs.BitLaws.{bit-with, bit-below}
 use Rattle.bits.proofs.Booleans.{or-right, false-elim}
 use Rattle.bits.proofs.Bounds.{any-some, some-any}
