@@ -8,7 +8,7 @@ use reference::State;
 
 const DAY: usize = 2_300;
 const DAYS: usize = 30;
-const MONTH: usize = 70_000;
+pub const MONTH: usize = 70_000;
 
 /// So many inputs of so many requests each. There are as many days as make a
 /// month: a processor that meets the same day again and again learns it.

@@ -15,17 +15,25 @@ mod shared;
 mod tables;
 
 use bars::Row;
-use inputs::{inputs, Input, Lent, Workload, ONE_JUDGE, ONE_REQUEST, WORKLOADS};
+use inputs::{inputs, Input, Lent, Workload, MONTH, ONE_JUDGE, ONE_REQUEST, WORKLOADS};
+use shared::{HISTORY_BYTES, LEVELS_BYTES};
+use std::env;
 use std::hint::black_box;
-use std::process::ExitCode;
+use std::process::{Command, ExitCode};
 use std::time::Instant;
 
-/// Every row is measured in so many passes over all rows, so that other work on
-/// the machine, which comes and goes, does not fall on all of one row; and in
-/// each pass in so many rounds. In a round each side runs every input of a row
-/// once, in turns; the quickest run of an input counts.
-const PASSES: usize = 6;
-const ROUNDS: usize = 5;
+/// All rows are measured in so many passes, each by a process of its own: which
+/// pages of memory a process gets is drawn anew for each, and with some of them
+/// the same code takes half as long again. Other work on the machine, which
+/// comes and goes, does not fall on all passes of one row either.
+const PASSES: usize = 8;
+
+/// In each round of a pass each side runs every input of a row once, in turns;
+/// the quickest run of an input counts, of all rounds of all passes.
+const ROUNDS: usize = 4;
+
+/// The argument with which a process makes one pass.
+const PASS: &str = "--pass";
 
 /// One measurement of loading is so many loads of one book.
 const LOADS: usize = 100;
@@ -38,27 +46,49 @@ const HEADING: &str =
     "| workload | mask | requests | granted | proved, ns | plain Rust, ns | ratio | keeping Rust, ns | ratio |
 |---|---|---|---|---|---|---|---|---|";
 
+/// The memory on which every side runs, one after another.
+struct Ground {
+    lent: Lent,
+    answers: Vec<u8>,
+}
+
+impl Ground {
+    fn new() -> Ground {
+        Ground {
+            lent: Lent {
+                history: vec![0; HISTORY_BYTES],
+                levels: vec![0; LEVELS_BYTES],
+            },
+            answers: vec![0; MONTH],
+        }
+    }
+}
+
 /// What a run leaves: its number and counts, history and levels, and the answers.
 type Left = ((u8, usize, usize), Lent, Vec<u8>);
 
 /// One run on history and levels: what it leaves and the nanoseconds that it
 /// took.
 fn timed(
+    ground: &mut Ground,
     run: impl Fn(&mut Lent, &mut [u8]) -> (u8, usize, usize),
     first: &Lent,
     count: usize,
 ) -> (Left, f64) {
-    let mut lent = first.clone();
-    let mut answers = vec![99; count];
+    let lent = &mut ground.lent;
+    lent.history.copy_from_slice(&first.history);
+    lent.levels.copy_from_slice(&first.levels);
+    let answers = &mut ground.answers[..count];
+    answers.fill(99);
     let start = Instant::now();
-    let ran = run(black_box(&mut lent), black_box(&mut answers));
+    let ran = run(black_box(lent), black_box(answers));
     let nanoseconds = start.elapsed().as_nanos() as f64;
-    ((ran, lent, answers), nanoseconds)
+    ((ran, lent.clone(), answers.to_vec()), nanoseconds)
 }
 
 /// What all sides grant of an input, and the nanoseconds of the proved run, the
 /// plain one and the one that keeps.
-fn all_runs(input: &Input, count: usize) -> (usize, [f64; 3]) {
+fn all_runs(ground: &mut Ground, input: &Input, count: usize) -> (usize, [f64; 3]) {
     let (book, requests) = (&input.book, &input.requests);
     let proved = |lent: &mut Lent, answers: &mut [u8]| {
         let Lent { history, levels } = lent;
@@ -72,9 +102,9 @@ fn all_runs(input: &Input, count: usize) -> (usize, [f64; 3]) {
     let keeping = |lent: &mut Lent, answers: &mut [u8]| {
         keeping::run(book, &mut lent.history, &mut lent.levels, requests, answers)
     };
-    let (left, ours) = timed(proved, &input.first, count);
-    let (plain_left, theirs) = timed(plain, &input.first, count);
-    let (keeping_left, kept) = timed(keeping, &input.first, count);
+    let (left, ours) = timed(ground, proved, &input.first, count);
+    let (plain_left, theirs) = timed(ground, plain, &input.first, count);
+    let (keeping_left, kept) = timed(ground, keeping, &input.first, count);
     assert!(left == plain_left, "proved and plain differ");
     assert!(left == keeping_left, "proved and keeping differ");
     assert_eq!(left.0 .0, 0);
@@ -83,7 +113,7 @@ fn all_runs(input: &Input, count: usize) -> (usize, [f64; 3]) {
 
 /// One judge of an input: 1 if it is granted, and the nanoseconds of the proved
 /// and of the plain side.
-fn all_judges(input: &Input, _: usize) -> (usize, [f64; 2]) {
+fn all_judges(_: &mut Ground, input: &Input, _: usize) -> (usize, [f64; 2]) {
     let Lent { history, levels } = &input.first;
     let (book, request) = (black_box(&input.book), black_box(&input.requests));
     let start = Instant::now();
@@ -97,7 +127,7 @@ fn all_judges(input: &Input, _: usize) -> (usize, [f64; 2]) {
 }
 
 /// One load of a book by each side: the nanoseconds.
-fn all_loads(input: &Input, _: usize) -> (usize, [f64; 2]) {
+fn all_loads(_: &mut Ground, input: &Input, _: usize) -> (usize, [f64; 2]) {
     let book = black_box(&input.book);
     let start = Instant::now();
     for _ in 0..LOADS {
@@ -112,42 +142,58 @@ fn all_loads(input: &Input, _: usize) -> (usize, [f64; 2]) {
     (0, [ours, theirs])
 }
 
-/// A row to be measured: its inputs, what is granted of each, and each side's
-/// quickest run of each.
+/// A row to be measured: so many inputs, what is granted of each, and each
+/// side's quickest run of each.
 struct Measured<const SIDES: usize> {
-    name: &'static str,
+    workload: &'static Workload,
     mask: u8,
-    dense: bool,
-    requests: usize,
-    inputs: Vec<Input>,
     granted: Vec<usize>,
     best: Vec<[f64; SIDES]>,
 }
 
 impl<const SIDES: usize> Measured<SIDES> {
-    fn of(workload: &Workload, mask: u8) -> Measured<SIDES> {
-        let inputs = inputs(workload, mask);
+    fn of(workload: &'static Workload, mask: u8) -> Measured<SIDES> {
         Measured {
-            name: workload.name,
+            workload,
             mask,
-            dense: workload.dense,
-            requests: workload.requests,
-            granted: vec![0; inputs.len()],
-            best: vec![[f64::MAX; SIDES]; inputs.len()],
-            inputs,
+            granted: vec![0; workload.inputs],
+            best: vec![[f64::MAX; SIDES]; workload.inputs],
         }
     }
 
-    /// One pass.
-    fn measure(&mut self, measure: impl Fn(&Input, usize) -> (usize, [f64; SIDES])) {
+    /// One pass: prints what is granted of each input and the quickest runs.
+    fn pass(
+        &mut self,
+        ground: &mut Ground,
+        measure: impl Fn(&mut Ground, &Input, usize) -> (usize, [f64; SIDES]),
+    ) {
+        let inputs = inputs(self.workload, self.mask);
         for _ in 0..ROUNDS {
-            for (k, input) in self.inputs.iter().enumerate() {
-                let (zeros, times) = measure(input, self.requests);
-                self.granted[k] = zeros;
-                for (best, time) in self.best[k].iter_mut().zip(times) {
-                    *best = time.min(*best);
-                }
+            for (k, input) in inputs.iter().enumerate() {
+                let (zeros, times) = measure(ground, input, self.workload.requests);
+                self.take(k, zeros, times);
             }
+        }
+        for (granted, times) in self.granted.iter().zip(&self.best) {
+            println!("{granted} {}", times.map(|time| time.to_string()).join(" "));
+        }
+    }
+
+    fn take(&mut self, k: usize, zeros: usize, times: [f64; SIDES]) {
+        self.granted[k] = zeros;
+        for (best, time) in self.best[k].iter_mut().zip(times) {
+            *best = time.min(*best);
+        }
+    }
+
+    /// Takes the figures of a pass from its lines.
+    fn read<'a>(&mut self, lines: &mut impl Iterator<Item = &'a str>) {
+        for k in 0..self.workload.inputs {
+            let mut words = lines.next().expect("a line for each input").split(' ');
+            let mut word = || words.next().expect("a figure for each side");
+            let zeros = word().parse().expect("a count");
+            let times = [(); SIDES].map(|()| word().parse().expect("nanoseconds"));
+            self.take(k, zeros, times);
         }
     }
 
@@ -162,15 +208,15 @@ impl<const SIDES: usize> Measured<SIDES> {
         sums
     }
 
-    /// Prints the row: nanoseconds a request of the proved side, of plain Rust and, if
-    /// there is a third, of the run that keeps.
+    /// Prints the row: nanoseconds a request of the proved side, of plain Rust
+    /// and, if there is a third, of the run that keeps.
     fn row(&self) -> Row {
-        let requests = self.inputs.len() * self.requests;
+        let requests = self.workload.inputs * self.workload.requests;
         let sums = self.sums().map(|sum| sum / requests as f64);
         let row = Row {
-            name: self.name,
+            name: self.workload.name,
             mask: self.mask,
-            dense: self.dense,
+            dense: self.workload.dense,
             requests,
             granted: self.granted.iter().sum(),
             proved: sums[0],
@@ -182,56 +228,87 @@ impl<const SIDES: usize> Measured<SIDES> {
     }
 }
 
-/// Prints the load of a full book: how many times as long the proved load
-/// takes.
-fn loads_ratio(loads: &Measured<2>) -> f64 {
-    let [proved, plain] = loads
-        .sums()
-        .map(|sum| sum / (loads.inputs.len() * LOADS) as f64);
-    let ratio = proved / plain;
-    println!(
-        "load of a full book: proved {proved:.1} ns, plain Rust {plain:.1} ns, ratio {ratio:.2}"
-    );
-    ratio
+/// All that is measured.
+struct Figures {
+    runs: Vec<Measured<3>>,
+    one_requests: [Measured<3>; 4],
+    one_judges: [Measured<2>; 3],
+    loads: Measured<2>,
 }
 
-/// The rows of days and months.
-fn day_and_month_rows() -> Vec<Measured<3>> {
-    let mut rows = Vec::new();
-    for workload in &WORKLOADS {
-        for mask in MASKS {
-            if mask != NO_RULE || !workload.dense {
-                rows.push(Measured::of(workload, mask));
+impl Figures {
+    fn new() -> Figures {
+        let mut runs = Vec::new();
+        for workload in &WORKLOADS {
+            for mask in MASKS {
+                if mask != NO_RULE || !workload.dense {
+                    runs.push(Measured::of(workload, mask));
+                }
             }
         }
+        Figures {
+            runs,
+            one_requests: [15, 1, 4, 0].map(|mask| Measured::of(&ONE_REQUEST, mask)),
+            one_judges: [15, 1, 4].map(|mask| Measured::of(&ONE_JUDGE, mask)),
+            loads: Measured::of(&ONE_REQUEST, MASKS[0]),
+        }
     }
-    rows
+
+    fn pass(&mut self) {
+        let mut ground = Ground::new();
+        for row in self.runs.iter_mut().chain(&mut self.one_requests) {
+            row.pass(&mut ground, all_runs);
+        }
+        for row in &mut self.one_judges {
+            row.pass(&mut ground, all_judges);
+        }
+        self.loads.pass(&mut ground, all_loads);
+    }
+
+    fn read(&mut self, text: &str) {
+        let mut lines = text.lines();
+        for row in self.runs.iter_mut().chain(&mut self.one_requests) {
+            row.read(&mut lines);
+        }
+        for row in &mut self.one_judges {
+            row.read(&mut lines);
+        }
+        self.loads.read(&mut lines);
+    }
+
+    /// Prints the table and the bars: whether all hold.
+    fn report(&self) -> bool {
+        println!("{HEADING}");
+        let runs: Vec<Row> = self.runs.iter().map(Measured::row).collect();
+        let one_requests = self.one_requests.each_ref().map(Measured::row);
+        for row in &self.one_judges {
+            row.row();
+        }
+        let loads = self.loads.workload.inputs * LOADS;
+        let [proved, plain] = self.loads.sums().map(|sum| sum / loads as f64);
+        let load = proved / plain;
+        println!("\nload of a full book: proved {proved:.1} ns, plain Rust {plain:.1} ns, ratio {load:.2}\n");
+        bars::hold(&runs, &one_requests, load)
+    }
 }
 
 fn main() -> ExitCode {
-    let mut runs = day_and_month_rows();
-    let mut one_requests = [15, 1, 4, 0].map(|mask| Measured::of(&ONE_REQUEST, mask));
-    let mut one_judges = [15, 1, 4].map(|mask| Measured::of(&ONE_JUDGE, mask));
-    let mut loads = Measured::of(&ONE_REQUEST, MASKS[0]);
+    let mut figures = Figures::new();
+    if env::args().any(|word| word == PASS) {
+        figures.pass();
+        return ExitCode::SUCCESS;
+    }
+    let own = env::current_exe().expect("the benchmark's own file");
     for _ in 0..PASSES {
-        for row in runs.iter_mut().chain(&mut one_requests) {
-            row.measure(all_runs);
-        }
-        for row in &mut one_judges {
-            row.measure(all_judges);
-        }
-        loads.measure(all_loads);
+        let pass = Command::new(&own).arg(PASS).output().expect("a process");
+        assert!(
+            pass.status.success(),
+            "{}",
+            String::from_utf8_lossy(&pass.stderr)
+        );
+        figures.read(&String::from_utf8_lossy(&pass.stdout));
     }
-    println!("{HEADING}");
-    let runs: Vec<Row> = runs.iter().map(Measured::row).collect();
-    let one_requests = one_requests.each_ref().map(Measured::row);
-    for row in &one_judges {
-        row.row();
-    }
-    println!();
-    let load = loads_ratio(&loads);
-    println!();
-    match bars::hold(&runs, &one_requests, load) {
+    match figures.report() {
         true => ExitCode::SUCCESS,
         false => ExitCode::FAILURE,
     }
