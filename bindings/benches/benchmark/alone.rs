@@ -1,10 +1,14 @@
 //! One request judged alone, in plain Rust: of what a person did only that is
-//! looked at which the rules in force ask about, and no further than until the
-//! answer is fixed. The wall looks at the folders of one class, and the roles
-//! first at reads, writes and starts and then at steps.
+//! looked at which the rules in force ask about. The wall looks at the folders of
+//! one class until one of the same firm is found, and the roles first at reads,
+//! writes and starts, and at steps only if the answer is not the same with none
+//! of them and with all.
 
 use crate::shared::*;
 use crate::tables::{load, Role, Tables};
+
+/// The rights of all sixteen steps.
+const ALL_STEPS: u64 = 0xffff << 48;
 
 /// The number of a request, the index of its bit, and the length of its record.
 pub struct Judged {
@@ -103,7 +107,7 @@ fn roles_permit(t: &Tables, h: &[u8], s: usize, right: usize) -> bool {
     if word(h, 2048 + 8 * s) & declared_persons(t) != 0 {
         rights |= 1 << 32;
     }
-    held(rights) && held(rights | rights_of_steps(t, h, s))
+    held(rights) && (held(rights | ALL_STEPS) || held(rights | rights_of_steps(t, h, s)))
 }
 
 fn judge_access(t: &Tables, h: &[u8], levels: &[u8], (s, o): (usize, usize), right: usize) -> u8 {
