@@ -58,7 +58,7 @@ fn roles_permit(t: Tables, roles: &[u64; 32], h: &[u8], s: usize, right: usize) 
     ensures { λ r. ⌜ RolesPermit t (setOf (now (h .entry))) s right r ⌝ }
 {
     let accesses = rights::rights_of_accesses(t, roles, h, s, right);
-    let starts = past::has_started(h, s, past::persons(t));
+    let starts = past::has_started_declared(t, h, s);
     if !role_holds(roles, accesses, 0, starts, right) {
         return false;
     }

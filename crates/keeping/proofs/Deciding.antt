@@ -2,48 +2,28 @@
 -- definition says, the marks say whether the parties are declared, and the ladder's number is that of the first test that fails, which is
 -- seen of every combination of tests.
 use Prim.Native.Nat.{ℕ, _+_, _-_, _%_, _<_}
-use native.Mathlib.Nat.{mod-eq-of-lt}
-use native.Mathlib.Omega.{arith}
-use mathlib.Core.Path.{_≡_, refl, sym, ap, ap₂, _∙_}
+use mathlib.Core.Path.{_≡_, refl, ap, _∙_}
 use mathlib.Core.Logic.{⊎-elim}
 use mathlib.Core.Bool.{Bool, true, false, cond, not, _&&_, _||_}
-use mathlib.Core.List.{List}
 use mathlib.Core.Option.{some}
-use lib.Dec.{eqb, ltb, leb}
+use lib.Dec.{eqb}
 use lib.Bits.{bitAnd}
 use lib.ListN.{getD}
-use borrow.Author.Tests.{eqb-true, lt-ltb, le-ltb, lt-leb, le-leb}
-use Rattle.bits.specs.Bits.{bit, maskBelow}
+use borrow.Author.Tests.{eqb-true}
+use Rattle.bits.specs.Bits.{bit}
 use Rattle.bits.specs.Bounded.{_implies_}
-use Rattle.bits.proofs.Booleans.{decide, and-left, and-right, and-both}
-use Rattle.bits.proofs.Masks.{bit-mask-below}
+use Rattle.bits.proofs.Booleans.{decide}
 use Rattle.level.specs.declared.Comparison.{Comparison}
 use Rattle.level.specs.declared.Comparison.the-variants.{AtMost, RankTooLow, CompartmentMissing}
-use Rattle.level.specs.Levels.{compareOf, isAtMost}
-use Rattle.level.specs.Sets.{levelSet}
+use Rattle.level.specs.Levels.{isAtMost}
 use Rattle.level.proofs.SetLaws.{outcome}
-use Rattle.policy.specs.declared.Folder.{Folder}
 use Rattle.policy.specs.declared.Tables.{Tables}
 use Rattle.policy.specs.Checks.{ladder}
-use Rattle.policy.specs.Tables.{
-  folderAt,
-  personAt,
-  personDeclared,
-  folderDeclared,
-  isPublic,
-  inForce,
-  wallRule,
-  lowWaterRule,
-  rolesRule,
-  pipelineRule,
-}
-use Rattle.policy.specs.Request.{Request, read, write, start, step, subject, hasPlace}
-use Rattle.policy.specs.Levels.{levelAt}
-use Rattle.policy.specs.Rules.{declared, wall, wallAccess, levelOutcome, modifyOutcome, lowWater, roles, pipeline, pipelineStep}
+use Rattle.policy.specs.Tables.{inForce, wallRule, lowWaterRule, rolesRule, pipelineRule}
+use Rattle.policy.specs.Request.{Request, hasPlace}
+use Rattle.policy.specs.Rules.{declared, wall, levelOutcome, lowWater, roles, pipeline}
 use Rattle.policy.specs.Calls.{outcomeNumber, requestChecks}
-use Rattle.levels.specs.Sets.{LevelSets}
-use Rattle.levels.proofs.SetLaws.{level-lt}
-use Rattle.keeping.specs.Kinds.{targetOf, asksLevel, isAccess, isStep}
+use Rattle.keeping.specs.Kinds.{asksLevel, isStep}
 use Rattle.keeping.specs.Failing.{Failing, firstFailing, numberAt, rivals, rankLacks, compartmentLacks, failingOf}
 use Rattle.keeping.proofs.FailingLaws.{every, every-at}
 

@@ -1,6 +1,6 @@
 -- Puts under fewer rules. Where the mask has none of some rules, none of them is in force, since its bit would be in both. Where the roles
--- are not in force they set no bit, so the bits of the three rules are those of the wall and of the pipeline; where neither of these is, the
--- bits are those of the roles.
+-- are not in force they set no bit, so the bits of the three rules are those of the wall and of the pipeline; where neither of these is,
+-- the bits are those of the roles.
 use Prim.Native.Nat.{ℕ, _/_, _%_, _^_}
 use mathlib.Core.Path.{_≡_, refl, sym, ap, ap₂, _∙_}
 use mathlib.Core.Logic.{⊎-elim}

@@ -4,38 +4,22 @@
 use Prim.Native.Nat.{ℕ, zero, suc, _+_, _%_, _<_}
 use native.Mathlib.Nat.{mod-eq-of-lt}
 use native.Mathlib.Omega.{arith}
-use mathlib.Core.Path.{_≡_, refl, sym, ap, ap₂, _∙_, fun-ext, subst}
+use mathlib.Core.Path.{_≡_, refl, sym, ap, _∙_, fun-ext}
 use mathlib.Core.Bool.{Bool, true, false, cond, not, _&&_, _||_}
 use mathlib.Core.List.{List}
-use lib.Dec.{eqb, ltb}
-use lib.Bits.{bitAnd}
-use lib.ListN.{length, getD, set}
-use lib.Seq.{set-getD}
+use lib.Dec.{eqb}
+use lib.ListN.{getD, set}
 use borrow.Author.Tests.{eq-eqb}
-use Rattle.bits.specs.Bits.{bit, withBit, maskBelow}
+use Rattle.bits.specs.Bits.{withBit, maskBelow}
 use Rattle.bits.specs.Bounded.{anyBelow}
 use Rattle.bits.proofs.Masks.{mask-ext, mask-with, mask-lt}
-use Rattle.policy.specs.declared.Folder.{Folder}
 use Rattle.policy.specs.declared.Tables.{Tables}
-use Rattle.policy.specs.Tables.{
-  folderAt,
-  personAt,
-  enables,
-  personDeclared,
-  folderDeclared,
-  isPublic,
-  inForce,
-  wallRule,
-  rolesRule,
-  pipelineRule,
-}
+use Rattle.policy.specs.Tables.{folderAt, enables, personDeclared, folderDeclared, isPublic, inForce, wallRule, pipelineRule}
 use Rattle.policy.specs.Rulebook.{given}
 use Rattle.policy.specs.Request.{Request, read, write, start, step, subject}
-use Rattle.policy.specs.Levels.{lowered}
 use Rattle.policy.specs.Rules.{declared, right, counted, done, leadsTo, pipelineStep}
 use Rattle.policy.specs.OneMore.{withRequest, accessOf, folderOf, stepOn, stepOf}
 use Rattle.policy.proofs.OneMore.{one-more}
-use Rattle.policy.proofs.GivenEntries.{folder-firm}
 use Rattle.pipeline.specs.Steps.{pipelineIn}
 use Rattle.pipeline.proofs.StepLaws.{pipeline-in}
 use Rattle.rules.specs.Kept.{mayBeNext, HasFirms, HasDone, HasNext}

@@ -7,11 +7,11 @@ use mathlib.Core.Path.{_≡_, refl, sym, ap, ap₂, _∙_}
 use mathlib.Core.Logic.{⊎-elim}
 use mathlib.Core.Bool.{Bool, true, false, cond, not, _&&_, _||_}
 use mathlib.Core.List.{List}
-use lib.Dec.{eqb, ltb}
-use lib.Bits.{bitAnd, and-le-l, or-zero-r}
+use lib.Dec.{eqb}
+use lib.Bits.{bitAnd, and-le-l}
 use lib.ListN.{length, getD, set, length-set}
-use lib.Seq.{getD-set-same, getD-set-other, set-getD}
-use borrow.Author.Tests.{eqb-true, eqb-false, eq-eqb, lt-ltb}
+use lib.Seq.{getD-set-same, getD-set-other}
+use borrow.Author.Tests.{eqb-true, eqb-false, eq-eqb}
 use Rattle.bits.specs.Bits.{bit, withBit, maskBelow}
 use Rattle.bits.specs.Bounded.{anyBelow}
 use Rattle.bits.proofs.Booleans.{decide, and-left, and-right, and-both, bool-ext, or-cases, or-left, or-right}
@@ -19,14 +19,14 @@ use Rattle.bits.proofs.Bounds.{any-ext}
 use Rattle.bits.proofs.BitLaws.{bit-and, bit-with, subset-bit, bit-subset, with-lt}
 use Rattle.bits.proofs.Masks.{mask-ext, mask-with, mask-lt, bit-mask-below, empty-none, mask-of-bits}
 use Rattle.policy.specs.declared.Tables.{Tables}
-use Rattle.policy.specs.Tables.{roleAt, personDeclared, folderDeclared, inForce, wallRule, rolesRule, pipelineRule}
+use Rattle.policy.specs.Tables.{roleAt, personDeclared, inForce, rolesRule}
 use Rattle.policy.specs.Rulebook.{given}
 use Rattle.policy.specs.Request.{Request, subject}
-use Rattle.policy.specs.Rules.{declared, right, used, counted, done, roles}
+use Rattle.policy.specs.Rules.{declared, right, used, roles}
 use Rattle.policy.specs.OneMore.{withRequest}
 use Rattle.policy.proofs.OneMore.{one-more}
 use Rattle.rules.specs.Sets.{covers}
-use Rattle.rules.specs.Kept.{SetsFor, holdsAll, holdsRight, HasHolding, HasHolders}
+use Rattle.rules.specs.Kept.{SetsFor, holdsAll, holdsRight, HasHolding}
 use Rattle.rules.proofs.SetLaws.{roles-any, right-below}
 
 -- ---- the sets at their places

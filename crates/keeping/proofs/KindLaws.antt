@@ -3,7 +3,7 @@
 use Prim.Native.Nat.{ℕ, _+_, _*_, _-_, _/_, _%_, _^_, _≤_, _<_}
 use native.Mathlib.Nat.{eq-or-lt-of-le, mod-lt, mul-le-mul-left, mul-le-mul-right, le-trans}
 use native.Mathlib.Omega.{arith}
-use mathlib.Core.Path.{_≡_, refl, sym, ap, ap₂, _∙_}
+use mathlib.Core.Path.{_≡_, refl, ap, _∙_}
 use mathlib.Core.Logic.{⊎-elim}
 use mathlib.Core.Bool.{Bool, true, false, cond, not, _&&_}
 use mathlib.Core.Option.{some}
@@ -14,28 +14,13 @@ use borrow.Author.Tests.{eqb-true, eq-eqb, lt-ltb, ltb-true, leb-true}
 use Rattle.bits.specs.Bounded.{allBelow}
 use Rattle.bits.proofs.Booleans.{and-left, and-right, and-both, bool-ext, false-elim}
 use Rattle.bits.proofs.Bounds.{all-at}
-use Rattle.policy.specs.Request.{Request, read, write, start, step, subject, index, hasPlace}
+use Rattle.policy.specs.Request.{read, write, start, step, subject, index, hasPlace}
 use Rattle.policy.specs.declared.Tables.{Tables}
 use Rattle.policy.specs.Tables.{folderAt}
 use Rattle.policy.specs.Rules.{right}
 use Rattle.policy.specs.OneMore.{folderOf, stepOf}
 use Rattle.request.specs.Parsed.{requestFor}
-use Rattle.keeping.specs.Kinds.{
-  kindRows,
-  rowOf,
-  placedBy,
-  rightBy,
-  askedBy,
-  placeOf,
-  targetOf,
-  asksLevel,
-  lowers,
-  isAccess,
-  isStep,
-  Exact,
-  PlacedAs,
-  RowOf,
-}
+use Rattle.keeping.specs.Kinds.{kindRows, rowOf, placedBy, rightBy, askedBy, placeOf, targetOf, asksLevel, lowers, isAccess, isStep, PlacedAs, RowOf}
 
 -- ---- the four kinds
 

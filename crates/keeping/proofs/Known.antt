@@ -11,9 +11,9 @@ use mathlib.Core.List.{List}
 use lib.Dec.{eqb, ltb, leb}
 use lib.Bits.{bitAnd}
 use lib.ListN.{getD}
-use borrow.Author.Tests.{lt-ltb, le-ltb, ltb-true, ltb-false, le-leb}
+use borrow.Author.Tests.{le-ltb, ltb-true, ltb-false, le-leb}
 use Rattle.bits.specs.Bits.{bit, maskBelow}
-use Rattle.bits.proofs.Booleans.{decide, and-left, and-right, and-both, false-intro, false-elim}
+use Rattle.bits.proofs.Booleans.{decide, and-left, and-right, false-intro, false-elim}
 use Rattle.bits.proofs.Masks.{bit-mask-below}
 use Rattle.level.specs.declared.Comparison.{Comparison}
 use Rattle.level.specs.declared.Comparison.the-variants.{AtMost, RankTooLow, CompartmentMissing}
@@ -22,22 +22,11 @@ use Rattle.level.specs.Sets.{levelSet}
 use Rattle.level.proofs.SetLaws.{outcome}
 use Rattle.policy.specs.declared.Folder.{Folder}
 use Rattle.policy.specs.declared.Tables.{Tables}
-use Rattle.policy.specs.Tables.{
-  folderAt,
-  personAt,
-  personDeclared,
-  folderDeclared,
-  classOf,
-  isPublic,
-  inForce,
-  wallRule,
-  rolesRule,
-  pipelineRule,
-}
+use Rattle.policy.specs.Tables.{folderAt, personAt, personDeclared, folderDeclared, classOf}
 use Rattle.policy.specs.Rulebook.{given}
 use Rattle.policy.specs.Request.{Request, read, write, start, step, subject, hasPlace}
 use Rattle.policy.specs.Levels.{levelAt}
-use Rattle.policy.specs.Rules.{declared, counted, wall, wallAccess, levelOutcome, modifyOutcome, pipeline, pipelineStep}
+use Rattle.policy.specs.Rules.{declared, counted, wall, wallAccess, levelOutcome, modifyOutcome, pipeline}
 use Rattle.policy.specs.OneMore.{folderOf, stepOf}
 use Rattle.policy.proofs.Requests.{declared-place}
 use Rattle.rules.specs.Sets.{firmsOf, wallIn}

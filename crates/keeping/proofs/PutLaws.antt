@@ -2,41 +2,36 @@
 -- request is refused, every update leaves what it is made on; where it is granted, each is the one that the request makes to what the set
 -- gives.
 use Prim.Native.Nat.{ℕ, _+_, _%_, _<_}
-use native.Mathlib.Nat.{mod-eq-of-lt}
 use native.Mathlib.Omega.{arith}
-use mathlib.Core.Path.{_≡_, refl, sym, ap, ap₂, _∙_, fun-ext, subst, subst₂}
+use mathlib.Core.Path.{_≡_, refl, sym, ap, _∙_, fun-ext, subst, subst₂}
 use mathlib.Core.Logic.{⊎-elim}
 use mathlib.Core.Bool.{Bool, true, false, cond, not, _&&_, _||_}
 use mathlib.Core.List.{List}
-use mathlib.Core.Option.{some}
-use lib.Dec.{eqb, ltb, leb}
+use lib.Dec.{ltb, leb}
 use lib.Bits.{bitAnd}
 use lib.ListN.{length, getD, set}
 use lib.Seq.{set-getD}
-use borrow.Author.Tests.{ltb-true, lt-ltb, leb-true}
+use borrow.Author.Tests.{leb-true}
 use Rattle.bits.specs.Bits.{bit, withBit, maskBelow}
 use Rattle.bits.proofs.Booleans.{decide, and-left, and-right, false-elim}
 use Rattle.policy.specs.declared.Folder.{Folder}
 use Rattle.policy.specs.declared.Tables.{Tables}
-use Rattle.policy.specs.Checks.{ladder}
 use Rattle.policy.specs.Tables.{folderAt, personAt, personDeclared, folderDeclared, isPublic, inForce, wallRule, rolesRule, pipelineRule}
 use Rattle.policy.specs.Rulebook.{given}
-use Rattle.policy.specs.History.{historyBytes, withBitAt}
-use Rattle.policy.specs.Request.{Request, read, write, start, step, subject, index, hasPlace, setOf, recorded}
-use Rattle.policy.specs.Levels.{levelAt, metWith, lowered}
+use Rattle.policy.specs.History.{historyBytes}
+use Rattle.policy.specs.Request.{Request, read, write, start, step, subject, setOf, recorded}
+use Rattle.policy.specs.Levels.{metWith, lowered}
 use Rattle.policy.specs.Rules.{declared, right}
-use Rattle.policy.specs.Calls.{State, state, requestChecks, recordedIf}
 use Rattle.policy.specs.OneMore.{withRequest, folderOf, stepOf}
 use Rattle.policy.proofs.Requests.{declared-place, person-below, folder-below}
-use Rattle.policy.proofs.GivenEntries.{folder-firm, folder-kind}
+use Rattle.policy.proofs.GivenEntries.{folder-firm}
 use Rattle.policy.proofs.Places.{set-recorded}
 use Rattle.pipeline.specs.Steps.{pipelineIn}
 use Rattle.rules.specs.Kept.{holdsRight, HasFirms, HasHolding, HasDone, HasNext}
 use Rattle.levels.specs.Sets.{LevelSets}
 use Rattle.levels.proofs.SetLaws.{sets-met}
-use Rattle.keeping.specs.declared.kinds.Placed.{Placed}
-use Rattle.keeping.specs.Kinds.{placeOf, targetOf, lowers, isAccess, isStep, Exact}
-use Rattle.keeping.specs.Keeping.{Kept, kept, Keeps, PutKept}
+use Rattle.keeping.specs.Kinds.{placeOf, targetOf, lowers, isAccess, isStep}
+use Rattle.keeping.specs.Keeping.{Kept, kept, Keeps}
 use Rattle.keeping.proofs.KeptLaws.{holding-more}
 use Rattle.keeping.proofs.GrantLaws.{firms-more, done-same, next-same, done-more, next-more}
 

@@ -3,23 +3,22 @@
 use Prim.Native.Nat.{ℕ, _+_, _%_, _<_}
 use native.Mathlib.Nat.{mod-eq-of-lt}
 use native.Mathlib.Omega.{arith}
-use mathlib.Core.Path.{_≡_, refl, sym, ap, ap₂, _∙_, subst, subst₂}
+use mathlib.Core.Path.{_≡_, refl, sym, ap, _∙_, subst, subst₂}
 use mathlib.Core.Logic.{⊎-elim}
 use mathlib.Core.Bool.{Bool, true, false, cond, not, _&&_, _||_}
 use mathlib.Core.List.{List}
 use mathlib.Core.Option.{some}
-use lib.Dec.{eqb, ltb}
+use lib.Dec.{eqb}
 use lib.Bits.{bitAnd}
 use lib.ListN.{length, getD, set}
 use lib.Seq.{set-getD}
 use borrow.Author.Tests.{lt-ltb, eqb-true}
 use Rattle.bits.specs.Bits.{bit, withBit, maskBelow}
-use Rattle.bits.proofs.Booleans.{decide, false-elim}
+use Rattle.bits.proofs.Booleans.{decide}
 use Rattle.policy.specs.declared.Folder.{Folder}
 use Rattle.policy.specs.declared.Tables.{Tables}
 use Rattle.policy.specs.Checks.{ladder}
 use Rattle.policy.specs.Tables.{folderAt, personAt, inForce, classOf, wallRule, rolesRule, pipelineRule}
-use Rattle.policy.specs.Rulebook.{given}
 use Rattle.policy.specs.History.{historyBytes, withBitAt}
 use Rattle.policy.specs.Request.{Request, subject, index, hasPlace, setOf, recorded}
 use Rattle.policy.specs.Levels.{levelAt, lowered}
@@ -36,19 +35,7 @@ use Rattle.level.specs.Sets.{levelSet}
 use Rattle.levels.proofs.SetLaws.{level-lt}
 use Rattle.keeping.specs.declared.Asked.{Asked}
 use Rattle.keeping.specs.declared.kinds.Placed.{Placed}
-use Rattle.keeping.specs.Kinds.{
-  placedBy,
-  rightBy,
-  askedBy,
-  placeOf,
-  targetOf,
-  lowers,
-  isAccess,
-  isStep,
-  Exact,
-  PlacedAs,
-  RowOf,
-}
+use Rattle.keeping.specs.Kinds.{placedBy, rightBy, askedBy, lowers, isAccess, isStep, Exact, PlacedAs, RowOf}
 use Rattle.keeping.specs.Failing.{Failing, firstFailing, numberAt, grantAt, failingOf}
 use Rattle.keeping.specs.Keeping.{Kept, kept, Keeps, Serves, PutKept, Changed}
 use Rattle.keeping.proofs.KindLaws.{placed-as, row-of, right-small, right-is, folder-number}

@@ -3,14 +3,14 @@
 use Prim.Native.Nat.{ℕ, _+_, _*_, _-_, _/_, _%_, _^_, _<_}
 use native.Mathlib.Nat.{mod-eq-of-lt}
 use native.Mathlib.Omega.{arith}
-use mathlib.Core.Path.{_≡_, refl, sym, ap, ap₂, _∙_}
+use mathlib.Core.Path.{_≡_, refl, ap, ap₂, _∙_}
 use mathlib.Core.Logic.{_≢_}
 use mathlib.Core.Bool.{Bool, true, false, cond, _&&_}
 use mathlib.Core.List.{List}
 use lib.Bits.{bitAnd, bitOr, and-mask, and-comm, and-zero-l, or-zero-r, or-add-and}
 use lib.ListN.{getD, set}
 use lib.Seq.{set-getD}
-use Rattle.bits.specs.Bits.{bit, withBit}
+use Rattle.bits.specs.Bits.{bit}
 use Rattle.bits.proofs.BitLaws.{with-masked-bit-if}
 use Rattle.policy.specs.History.{withBitAt}
 

@@ -4,7 +4,6 @@ use mathlib.Core.Bool.{Bool, cond, not, _&&_, _||_}
 use mathlib.Core.List.{List, [], _∷_}
 use lib.Dec.{eqb, leb}
 use lib.Bits.{bitAnd, bitOr}
-use lib.ListN.{getD}
 use Rattle.bits.specs.Bits.{bit}
 use Rattle.level.specs.Levels.{rankOf, compartmentsOf}
 use Rattle.policy.specs.Tables.{wallRule, lowWaterRule, rolesRule, pipelineRule}

@@ -9,7 +9,6 @@ use lib.Dec.{eqb}
 use lib.Bits.{bitAnd}
 use lib.ListN.{length, getD, set}
 use Rattle.bits.specs.Bits.{bit, withBit, maskBelow}
-use Rattle.level.specs.Sets.{levelSet}
 use Rattle.policy.specs.declared.Folder.{Folder}
 use Rattle.policy.specs.declared.Tables.{Tables}
 use Rattle.policy.specs.Checks.{ladder}

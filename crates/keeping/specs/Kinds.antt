@@ -6,7 +6,6 @@ use mathlib.Core.List.{List, [], _∷_}
 use lib.Dec.{eqb}
 use lib.Bits.{bitAnd}
 use lib.ListN.{getD}
-use Rattle.policy.specs.declared.Folder.{Folder}
 use Rattle.policy.specs.Request.{Request, read, write, start, step, subject, index, hasPlace}
 use Rattle.policy.specs.OneMore.{stepOf}
 use Rattle.keeping.specs.declared.kinds.Placed.{Placed}

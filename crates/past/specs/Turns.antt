@@ -55,6 +55,10 @@ rightsAfter e wasRead wasWritten before =
 unfoldable pub rightsTurn : Tables → ℕ → ℕ → ℕ → ℕ → ℕ → ℕ
 rightsTurn t first reads writes i = rightsAfter (folderAt t (first + i)) (bit reads i) (bit writes i)
 
+-- the rights after those of 64 folders that are in one of two words
+unfoldable pub rightsVisiting : Tables → ℕ → ℕ → ℕ → ℕ → ℕ
+rightsVisiting t first reads writes = foldSet 64 (bitOr reads writes) (rightsTurn t first reads writes)
+
 -- what the person did after a folder whose entry is e and which was read and written or not, if it is declared: without the rights of steps
 unfoldable pub pastWith : Folder → Bool → Bool → Past → Past
 pastWith e wasRead wasWritten before =

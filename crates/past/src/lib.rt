@@ -115,6 +115,18 @@ pub fn has_started(h: &[u8], s: usize, persons: u64) -> bool
     history::word_at(h, 2048 + 8 * s) & persons != 0
 }
 
+// Whether person s started a declared person. Where the person started nobody, the tables are not copied.
+pub fn has_started_declared(t: Tables, h: &[u8], s: usize) -> bool
+    requires { ⌜ (length (now h) ≡ historyBytes) × (s < 64) ⌝ }
+    ensures { λ r. ⌜ r ≡ started (maskBelow 64 (personDeclared t)) (now (h .entry)) s ⌝ }
+{
+    let started = history::word_at(h, 2048 + 8 * s);
+    if started == 0 {
+        return false;
+    }
+    started & persons(t) != 0
+}
+
 // The rights, with those of a set of steps and that of starts.
 pub fn rights_with(rights: u64, steps: u16, starts: bool) -> u64
     ensures { λ r. ⌜ r ≡ rightsWith rights steps starts ⌝ }

@@ -12,7 +12,7 @@ ghost use Rattle.policy.specs.Request.{setOf};
 ghost use Rattle.rules.specs.Sets.{rolesIn};
 ghost use Rattle.past.specs.Found.{FoundOf};
 ghost use Rattle.past.specs.Past.{rightsBelow};
-ghost use Rattle.past.specs.Turns.{EntryInBounds, rightsAfter};
+ghost use Rattle.past.specs.Turns.{EntryInBounds, rightsAfter, rightsVisiting};
 use policy::Folder;
 use policy::Tables;
 
@@ -36,26 +36,21 @@ pub fn some_role_holds(roles: &[u64; 32], rights: u64, right: usize) -> bool
     rules::lowest_role(roles, bits::with_bit64(rights, right)) < 32
 }
 
-// The rights that person s used by reads and writes of folders up to the last of the 64 from `first` on, if `before` are those of the
-// folders before them; or, once no role holds all that was found and a new right, only this. Each turn takes the lowest folder out of the
-// set of those that were read or written. Only a turn that found a right asks for a role.
-fn rights_over(
+// The rights after those of the 64 folders from `first` on that were read or written, if `before` are those before them: bit i of each word
+// for folder first + i. Or, once no role holds all that was found and a new right, only this. Each turn takes the lowest folder out of the
+// set, and only a turn that found a right asks for a role.
+fn rights_visiting(
     t: Tables,
     roles: &[u64; 32],
-    h: &[u8],
-    s: usize,
     right: usize,
     first: usize,
+    read: u64,
+    wrote: u64,
     before: u64,
 ) -> u64
-    requires { ⌜
-        (length (now h) ≡ historyBytes) × (given t ≡ true) × (personDeclared t s ≡ true) × (first % 8 ≡ 0) × (first + 64 ≤ 128)
-        × (before ≡ rightsBelow t (setOf (now h)) s first)
-        ⌝ }
-    ensures { λ r. ⌜ FoundOf (now (roles .entry)) (right % 64) (rightsBelow t (setOf (now (h .entry))) s (first + 64)) r ⌝ }
+    requires { ⌜ (given t ≡ true) × (first + 64 ≤ 128) ⌝ }
+    ensures { λ r. ⌜ FoundOf (now (roles .entry)) (right % 64) (rightsVisiting t first read wrote before) r ⌝ }
 {
-    let read = history::word_at(h, 16 * s + (first >> 3));
-    let wrote = history::word_at(h, 1024 + 16 * s + (first >> 3));
     let mut rights = before;
     let mut rest = read | wrote;
     while rest != 0 {
@@ -73,6 +68,35 @@ fn rights_over(
     rights
 }
 
+// The rights that person s used by reads and writes of folders up to the last of the 64 from `first` on, if `before` were found on the
+// folders before them; or, once no role holds all that was found and a new right, only this. Where the person did nothing on them, no role
+// is asked for and the tables are not copied.
+fn rights_over(
+    t: Tables,
+    roles: &[u64; 32],
+    h: &[u8],
+    s: usize,
+    right: usize,
+    first: usize,
+    before: u64,
+) -> u64
+    requires { ⌜
+        (length (now h) ≡ historyBytes) × (given t ≡ true) × (personDeclared t s ≡ true) × (first % 8 ≡ 0) × (first + 64 ≤ 128)
+        × FoundOf (now roles) (right % 64) (rightsBelow t (setOf (now h)) s first) before
+        ⌝ }
+    ensures { λ r. ⌜ FoundOf (now (roles .entry)) (right % 64) (rightsBelow t (setOf (now (h .entry))) s (first + 64)) r ⌝ }
+{
+    let read = history::word_at(h, 16 * s + (first >> 3));
+    let wrote = history::word_at(h, 1024 + 16 * s + (first >> 3));
+    if read | wrote == 0 {
+        return before;
+    }
+    if !some_role_holds(roles, before, right) {
+        return before;
+    }
+    rights_visiting(t, roles, right, first, read, wrote, before)
+}
+
 // The rights that person s used by reads and writes; or, once no role holds all that was found and a new right, only this.
 pub fn rights_of_accesses(t: Tables, roles: &[u64; 32], h: &[u8], s: usize, right: usize) -> u64
     requires { ⌜ (length (now h) ≡ historyBytes) × (given t ≡ true) × (personDeclared t s ≡ true) ⌝ }
@@ -80,9 +104,6 @@ pub fn rights_of_accesses(t: Tables, roles: &[u64; 32], h: &[u8], s: usize, righ
 {
     let mut rights: u64 = 0;
     for half in 0..2 {
-        if !some_role_holds(roles, rights, right) {
-            return rights;
-        }
         rights = rights_over(t, roles, h, s, right, 64 * half, rights);
     }
     rights

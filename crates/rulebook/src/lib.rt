@@ -38,7 +38,7 @@ fn finish(at: usize, t: Tables) -> Loaded
 
 // Loads a book: its tables, or those of the empty book with the number and the offset of what refuses it. `own` is the number that a
 // record declares or marks, and `named` the firm or the step that it names besides. What a record declares is stored before its number is
-// looked at, so that a record's kind is told apart once: of a refused book these tables are not handed back.
+// looked at: the two matches on its kind then stand side by side, and take one jump. Of a refused book these tables are not handed back.
 pub fn load(book: &[u8]) -> Loaded
     ensures { λ r. ⌜ r ≡ loadBook (now (book .entry)) ⌝ }
 {

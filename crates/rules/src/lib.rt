@@ -1,5 +1,4 @@
-// The wall and the roles (document 01, "Four rules", and document 02, Point 1), over sets: the firms of a class, the rights of the roles,
-// the firms that the wall counts for a person and the rights that the person used.
+// What the wall and the roles (document 01, "Four rules") ask of the tables, as sets: the firms of each class, and the rights of each role.
 ghost use mathlib.Core.Path.{_≡_};
 ghost use mathlib.Core.Bool.{true};
 ghost use Prim.Native.Nat.{_≤_};
@@ -39,7 +38,7 @@ fn covers(rights: u64, wanted: u64) -> bool
     wanted & rights == wanted
 }
 
-// The lowest role that holds all the rights wanted; 32 where none does.
+// A role that holds all the rights wanted; 32 where none does.
 pub fn lowest_role(roles: &[u64; 32], wanted: u64) -> usize
     ensures { λ r. ⌜ (r ≤ 32) × (ltb r 32 ≡ rolesIn (now (roles .entry)) wanted) ⌝ }
 {

@@ -1,20 +1,19 @@
 -- The class that the loop looks up is that of the entry of the request's folder, also of an undeclared one, whose firm is 0: the numbers of
 -- a folder's firm and of its class are in range, so each is its own rest by the length of its array.
 use Prim.Native.Nat.{ℕ, _%_, _<_}
-use native.Mathlib.Nat.{mod-lt, mod-eq-of-lt}
+use native.Mathlib.Nat.{mod-lt}
 use native.Mathlib.Omega.{arith}
 use mathlib.Core.Path.{_≡_, ap, _∙_}
 use mathlib.Core.Logic.{⊎-elim}
 use mathlib.Core.Bool.{true}
 use mathlib.Core.List.{List}
-use lib.Dec.{eqb, ltb, leb}
 use lib.ListN.{getD}
-use borrow.Author.Tests.{eqb-true, lt-ltb}
-use Rattle.bits.proofs.Booleans.{decide, and-both}
+use borrow.Author.Tests.{lt-ltb}
+use Rattle.bits.proofs.Booleans.{and-both}
 use Rattle.policy.specs.declared.Folder.{Folder}
 use Rattle.policy.specs.declared.Tables.{Tables}
 use Rattle.policy.specs.Tables.{firmAt, folderAt, folderDeclared, classOf}
-use Rattle.policy.specs.Rulebook.{given, folderGiven}
+use Rattle.policy.specs.Rulebook.{given}
 use Rattle.policy.proofs.GivenEntries.{given-entries, folder-firm, folder-cases}
 use Rattle.rules.specs.Sets.{firmsOf, HasClasses}
 use Rattle.rules.proofs.ClassLaws.{class-below}

@@ -2,12 +2,12 @@
 -- levels after it give.
 use Prim.Native.Nat.{ℕ, _+_, _-_, _%_, _≤_, _<_}
 use native.Mathlib.Omega.{arith}
-use mathlib.Core.Path.{_≡_, refl, sym, ap, ap₂, _∙_, subst}
+use mathlib.Core.Path.{_≡_, refl, sym, ap, _∙_}
 use mathlib.Core.Bool.{Bool, true, cond}
-use mathlib.Core.List.{List, [], _∷_, _++_, append-assoc}
+use mathlib.Core.List.{List, [], _∷_, _++_}
 use mathlib.Core.Option.{some}
 use lib.Dec.{eqb}
-use lib.ListN.{length, set, drop, take, length-set, length-drop}
+use lib.ListN.{length, set, drop, length-set}
 use Rattle.policy.specs.declared.Folder.{Folder}
 use Rattle.policy.specs.declared.Tables.{Tables}
 use Rattle.policy.specs.Tables.{folderAt, classOf}
@@ -23,7 +23,7 @@ use Rattle.rules.specs.Kept.{HasHolders}
 use Rattle.keeping.specs.Kinds.{askedBy}
 use Rattle.keeping.specs.Keeping.{Keeps, Serves, PutKept, Sized, Kept as Keeping}
 use Rattle.keeping.proofs.KindLaws.{asked-is}
-use Rattle.running.specs.Running.{Turned, Done, Begun, Kept}
+use Rattle.running.specs.Running.{Begun, Kept}
 use Rattle.running.proofs.Records.{next-at-within, next-at-further, due-at}
 use Rattle.running.proofs.Turns.{as-turned, done-none, done-due, done-more}
 

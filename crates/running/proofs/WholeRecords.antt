@@ -1,7 +1,7 @@
 -- The whole records of a run: a turn that finds one goes on behind it, and one that finds an unknown or cut record, or no byte, stays for
 -- good. So where some number of turns, not less than the bytes left, comes to is where the whole records end.
 use Prim.Native.Nat.{ℕ, zero, suc, _+_, _≤_, _<_}
-use native.Mathlib.Nat.{eq-or-lt-of-le}
+use native.Mathlib.Nat.{eq-zero-or-pos}
 use native.Mathlib.Omega.{arith}
 use mathlib.Core.List.{List}
 use mathlib.Core.Logic.{⊎-elim}
@@ -24,6 +24,16 @@ pub starts : (requests : List ℕ) → Left requests 0
 unfolding wholeEnd
 starts requests = record { turns = length requests; enough = omega arith; same = refl }
 
+-- turns go on, never back
+turns-on : (n : ℕ) (requests : List ℕ) (at : ℕ) → at ≤ endFrom n requests at
+unfolding endFrom
+turns-on zero requests at = omega arith
+turns-on (suc n) requests at = omega (arith, turns-on n requests (at + wholeLength (drop at requests)))
+
+-- so they come to no place behind the end of the whole records
+not-past : {requests : List ℕ} {at : ℕ} → Left requests at → at ≤ wholeEnd requests
+not-past {requests} {at} left = omega (arith, turns-on (left .turns) requests at, left .same)
+
 module _ (requests : List ℕ) (at : ℕ) where
   -- a turn over no whole record stays
   stays : (n : ℕ) → wholeLength (drop at requests) ≡ 0 → endFrom n requests at ≡ at
@@ -40,7 +50,7 @@ module _ (requests : List ℕ) (at : ℕ) where
 
   -- none or one stands here
   whole-or-none : {P : Type 0} → (wholeLength (drop at requests) ≡ 0 → P) → (0 < wholeLength (drop at requests) → P) → P
-  whole-or-none none whole = ⊎-elim (λ e. none (sym e)) whole (eq-or-lt-of-le (omega arith))
+  whole-or-none none whole = ⊎-elim none whole (eq-zero-or-pos (wholeLength (drop at requests)))
 
   -- none stands behind the last byte
   pub none-behind : length requests ≤ at → wholeLength (drop at requests) ≡ 0
@@ -80,10 +90,17 @@ module _ (requests : List ℕ) (at : ℕ) where
       due-at requests at below
       ∙ ap suc (none-due requests (at + nextRecord (drop at requests)) (omega (arith, next, length-drop at requests)))
 
+  -- where no whole record stands, one answer is left at most
+  due-none : wholeLength (drop at requests) ≡ 0 → answersDue (drop at requests) ≤ 1
+  due-none none =
+      let left = length-drop at requests in
+      ⊎-elim (λ empty. omega (arith, none-due requests at (omega (arith, empty, left))))
+      (λ some. omega (arith, due-last (omega (arith, some, left)) none)) (eq-zero-or-pos (length (drop at requests)))
+
 -- ---- a turn of a run
 
 module _ {requests : List ℕ} {at : ℕ} (left : Left requests at) where
-  module _ {end : ℕ} (before : at < end) (is : end ≡ wholeEnd requests) where
+  module _ {end : ℕ} (is : end ≡ wholeEnd requests) (before : at < end) where
     -- before the end of the whole records, one stands
     pub whole-before : 0 < wholeLength (drop at requests)
     whole-before = whole-at requests at left (rw (← is) before)
@@ -91,6 +108,12 @@ module _ {requests : List ℕ} {at : ℕ} (left : Left requests at) where
     -- and bytes are left
     pub below-end : at < length requests
     below-end = omega (arith, whole-before, whole-within requests at whole-before)
+
+  -- from their end on, none does, and one answer is left at most
+  pub due-from-end : {end : ℕ} → end ≡ wholeEnd requests → end ≤ at → answersDue (drop at requests) ≤ 1
+  due-from-end is past =
+      due-none requests at (whole-or-none requests at (λ none. none)
+      (λ whole. absurd (omega (arith, past, is, whole, not-past (goes requests at left whole)))))
 
   -- a whole record that is parsed is passed
   pub goes-parsed : {r : Parsed} → 0 < wholeLength (drop at requests) → ParsedFrom (drop at requests) r → Left requests (at + r .next)

@@ -2,7 +2,7 @@
 // request is added to them. The loop has the tables by value, reads the entries of a request's own folder and firm, and hands these on; it
 // takes all whole records of known kinds, so it tests none, and what is left, an unknown or cut record at most, is put alone.
 ghost use Prim.Native.Nat.{_≤_};
-ghost use lib.ListN.{length};
+ghost use lib.ListN.{length, drop};
 ghost use mathlib.Core.Path.{_≡_};
 ghost use Rattle.policy.specs.Request.{setOf};
 ghost use Rattle.policy.specs.Calls.{state, answersDue};
@@ -17,7 +17,7 @@ use keeping::kinds;
 use policy::Tables;
 
 // Puts the requests one after another, each on the history and the sets that the one before it leaves, and writes their numbers, up to
-// where the whole records end.
+// where the whole records end, so that one answer is left at most.
 fn run_by(
     t: Tables,
     holders: &[u64; 64],
@@ -42,6 +42,7 @@ fn run_by(
         Kept t (state (now (h .entry)) (now (l .entry))) (now (requests .entry)) (now (answers .entry)) (r .at) (r .answered) (r .granted)
         (now (h .exit)) (now (answers .exit))
         (kept (now (firms .exit)) (now (holding .exit)) (now (done .exit)) (now (next .exit)) (now (sets .exit)))
+        × (answersDue (drop (r .at) (now (requests .entry))) ≤ 1)
         ⌝ }
 {
     let rows = kinds::rows();
@@ -84,7 +85,7 @@ fn run_by(
     }
 }
 
-// Runs the requests up to where the whole records end.
+// Runs the requests up to where the whole records end, so that one answer is left at most.
 pub fn run(
     t: Tables,
     h: &mut [u8],
@@ -99,6 +100,7 @@ pub fn run(
     ensures { λ r. ⌜
         Begun t (state (now (h .entry)) (now (l .entry))) (now (requests .entry)) (now (answers .entry)) (r .at) (r .answered) (r .granted)
         (state (now (h .exit)) (now (l .exit))) (now (answers .exit))
+        × (answersDue (drop (r .at) (now (requests .entry))) ≤ 1)
         ⌝ }
 {
     let holders = gathering::holders(t);

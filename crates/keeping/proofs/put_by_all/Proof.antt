@@ -1,23 +1,13 @@
 -- `put_by_all` judges the request by what is kept and changes what is kept by what was found, as the definitions do (Puts).
 use borrow.Author.Needs.{needs}
-use Prim.Native.Nat.{ℕ, _<_}
+use Prim.Native.Nat.{_<_}
 use native.Mathlib.Omega.{arith}
-use mathlib.Core.Path.{_≡_, refl, sym, ap, _∙_}
-use mathlib.Core.Bool.{Bool, cond, not, _&&_}
-use lib.Dec.{eqb}
-use lib.ListN.{getD}
-use Rattle.policy.specs.Tables.{personAt}
-use Rattle.policy.specs.Levels.{levelAt}
-use Rattle.request.specs.declared.Parsed.{Parsed}
-use Rattle.keeping.specs.declared.kinds.Placed.{Placed}
-use Rattle.keeping.specs.Kinds.{placedBy, rightBy, askedBy, isAccess, PlacedAs}
-use Rattle.keeping.specs.Failing.{numberAt, grantAt, firstFailing}
-use Rattle.keeping.specs.Keeping.{Within, kept}
+use mathlib.Core.Path.{_≡_, refl, _∙_}
+use mathlib.Core.Bool.{_&&_}
+use Rattle.keeping.specs.Kinds.{askedBy, isAccess}
+use Rattle.keeping.specs.Keeping.{kept}
 use Rattle.keeping.proofs.KindLaws.{row-of}
-use Rattle.keeping.proofs.FailingLaws.{granted-at}
-use Rattle.keeping.proofs.Known.{levelIn, markIn, set-at, level-small}
 use Rattle.keeping.proofs.Puts.{placed-at, found-at, right-in}
-use Rattle.levels.proofs.SetLaws.{level-lt}
 use Rattle.keeping.proofs.put_by_all.Statement.{statement}
 use Rattle.keeping.proofs.put_by_all.Tie as tie
 use Rattle.keeping.proofs.put_by_all.Reads as reads

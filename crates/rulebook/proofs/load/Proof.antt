@@ -1,9 +1,8 @@
 -- `load` keeps, from record to record, that the bytes left and the tables so far come to what the whole book comes to: `Left`. Each arm of
 -- the second match stores what the record of its kind declares (Proof/Stores); of a record that is refused nothing is handed back.
-use Prim.Native.Nat.{ℕ, _-_}
+use Prim.Native.Nat.{_-_}
 use mathlib.Core.Bool.{true}
 use mathlib.Core.Path.{_≡_, refl, ap, _∙_}
-use lib.ListN.{length}
 use borrow.Author.Needs.{needs}
 use Rattle.policy.specs.Rulebook.{inRange}
 use Rattle.rulebook.specs.Readings.{recordRead, passedBook}

@@ -1,12 +1,10 @@
 -- `level_check` has the bits of the rank and of the compartments where low-water is in force and asks about the request.
 use borrow.Author.Needs.{needs}
 use mathlib.Core.Path.{sym, _∙_}
-use mathlib.Core.Bool.{not, _&&_}
+use mathlib.Core.Bool.{_&&_}
 use lib.Dec.{lit<}
-use Rattle.bits.specs.Bits.{bit}
-use Rattle.policy.specs.Tables.{lowWaterRule}
 use Rattle.keeping.specs.Failing.{rankLacks, compartmentLacks}
-use Rattle.keeping.proofs.FailingLaws.{two-checks, shifted, in-force}
+use Rattle.keeping.proofs.FailingLaws.{two-checks, shifted}
 use Rattle.keeping.proofs.checks.level_check.Statement.{statement}
 use Rattle.keeping.proofs.checks.level_check.Tie as tie
 use Rattle.keeping.proofs.checks.level_check.Reads as reads

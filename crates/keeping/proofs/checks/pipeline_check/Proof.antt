@@ -1,8 +1,7 @@
 -- `pipeline_check` has its bit where the pipeline is in force, a step is asked for, and it may not be done next.
 use borrow.Author.Needs.{needs}
 use mathlib.Core.Path.{sym, _∙_}
-use lib.Dec.{eqb, lit<}
-use lib.Bits.{bitAnd}
+use lib.Dec.{lit<}
 use mathlib.Core.Bool.{not, _&&_}
 use Prim.Native.Nat.{_%_}
 use Rattle.bits.specs.Bits.{bit}

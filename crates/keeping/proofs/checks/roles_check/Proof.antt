@@ -3,7 +3,7 @@ use borrow.Author.Needs.{needs}
 use mathlib.Core.Path.{sym, _∙_}
 use lib.Dec.{eqb, lit<}
 use lib.Bits.{bitAnd}
-use mathlib.Core.Bool.{not, _&&_}
+use mathlib.Core.Bool.{_&&_}
 use Prim.Native.Nat.{_%_}
 use Rattle.bits.specs.Bits.{bit}
 use Rattle.policy.specs.Tables.{rolesRule}

@@ -1,7 +1,7 @@
 -- `unknown_check` is 1 where a number is out of range or a set is marked.
 use borrow.Author.Needs.{needs}
 use mathlib.Core.Bool.{_||_}
-use mathlib.Core.Path.{ap, _∙_}
+use mathlib.Core.Path.{_∙_}
 use Rattle.keeping.proofs.FailingLaws.{or-ones}
 use Rattle.keeping.proofs.checks.unknown_check.Statement.{statement}
 use Rattle.keeping.proofs.checks.unknown_check.Tie as tie

@@ -1,11 +1,10 @@
--- `put_by_roles` judges by the levels and the roles, and changes nothing else, as the definitions do where neither the wall nor the pipeline
--- is in force.
+-- `put_by_roles` judges by the levels and the roles, and changes nothing else, as the definitions do where neither the wall nor the
+-- pipeline is in force.
 use borrow.Author.Needs.{needs}
 use native.Mathlib.Omega.{arith}
 use mathlib.Core.Path.{refl, ap, _∙_}
 use mathlib.Core.Bool.{cond, not, _&&_}
 use lib.ListN.{getD, set}
-use Rattle.bits.specs.Bits.{bit}
 use Rattle.policy.specs.Tables.{wallRule, pipelineRule}
 use Rattle.policy.specs.Request.{hasPlace}
 use Rattle.keeping.specs.Kinds.{askedBy, isAccess, isStep, lowers, asksLevel}
@@ -132,21 +131,24 @@ narrowed-requires c κs = search needs
 
 mul-sets : tie.Need-mul-sets
 mul-sets c =
-    let placed = c .before .before .before .before .before .before .before .before .before .before .before .before .before .before .before .before .before in
+    let placed = c .before .before .before .before .before .before .before .before .before .before .before .before .before .before
+    .before .before .before in
     let start = placed .before .before in
     let at = placed-at (start .args .r) (start .pre .3) (start .pre .4) (placed .place .ensures .1) (placed .place .ensures .0) in
     let l = at .personBelow in omega (arith, l)
 
 element-write-sets : tie.Need-element-write-sets
 element-write-sets c =
-    let placed = c .before .before .before .before .before .before .before .before .before .before .before .before .before .before .before .before .before in
+    let placed = c .before .before .before .before .before .before .before .before .before .before .before .before .before .before
+    .before .before .before in
     let start = placed .before .before in
     let at = placed-at (start .args .r) (start .pre .3) (start .pre .4) (placed .place .ensures .1) (placed .place .ensures .0) in
     let l = at .personBelow in omega (arith, l)
 
 keep-roles-requires : tie.Need-keep-roles-requires
 keep-roles-requires c κs =
-    let placed = c .before .before .before .before .before .before .before .before .before .before .before .before .before .before .before .before .before .before in
+    let placed = c .before .before .before .before .before .before .before .before .before .before .before .before .before .before
+    .before .before .before .before in
     let start = placed .before .before in
     let at = placed-at (start .args .r) (start .pre .3) (start .pre .4) (placed .place .ensures .1) (placed .place .ensures .0) in
     (start .pre .7, at .personBelow)

@@ -4,7 +4,7 @@ use native.Mathlib.Omega.{arith}
 use mathlib.Core.Path.{_≡_, refl}
 use lib.Bits.{bitAnd, and-le-l}
 use borrow.Author.Needs.{needs}
-use Rattle.keeping.specs.Kinds.{rowOf, placedBy}
+use Rattle.keeping.specs.Kinds.{placedBy}
 use Rattle.keeping.proofs.KindLaws.{first-most, by-person-most, by-place-most, first-set-most, product-most}
 use Rattle.keeping.proofs.kinds.place.Statement.{statement}
 use Rattle.keeping.proofs.kinds.place.Tie as tie

@@ -1,6 +1,5 @@
 -- `right` is the first right of the kind with the step or the folder's kind, whichever the row takes.
 use native.Mathlib.Omega.{arith}
-use mathlib.Core.Path.{refl}
 use lib.Bits.{and-le-l}
 use borrow.Author.Needs.{needs}
 use Rattle.keeping.specs.Kinds.{rightBy}

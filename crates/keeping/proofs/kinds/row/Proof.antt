@@ -1,5 +1,4 @@
 -- `row` reads a number of the row of a kind: its place is the kind's modulo 4.
-use mathlib.Core.Path.{refl}
 use Rattle.keeping.specs.Kinds.{rowOf}
 use borrow.Author.Needs.{needs}
 use Rattle.keeping.proofs.kinds.row.Statement.{statement}

@@ -1,5 +1,5 @@
--- Where the arms of the second match of `load` meet, the tables are those with what the record declares, since each arm stores what a record
--- of its kind declares; at the end record they are unchanged.
+-- Where the arms of the second match of `load` meet, the tables are those with what the record declares, since each arm stores what a
+-- record of its kind declares; at the end record they are unchanged.
 use Prim.Native.Nat.{ℕ, suc}
 use native.Mathlib.Omega.{arith}
 use mathlib.Core.Logic.{⊎-elim}

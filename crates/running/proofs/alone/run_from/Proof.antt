@@ -2,7 +2,7 @@
 -- levels so far are at each turn what the whole run gives.
 use Prim.Native.Nat.{ℕ, _-_, _<_}
 use native.Mathlib.Omega.{arith}
-use mathlib.Core.Path.{_≡_, refl, sym, _∙_, subst}
+use mathlib.Core.Path.{_≡_, sym, _∙_, subst}
 use mathlib.Core.List.{List}
 use lib.ListN.{length, drop, length-set}
 use borrow.Rule.Slice.PartAt.{part-to-end}

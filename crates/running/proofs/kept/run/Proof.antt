@@ -75,10 +75,11 @@ same-length-3 c = search needs
 
 returns : tie.Need-returns
 returns c =
-    let kept = c .before .before .before .before .before .before .before .before .before .run-by .ensures in
+    let ran = c .before .before .before .before .before .before .before .before .before .run-by .ensures in
+    let kept = ran .0 in
     let l = c .before .before .store .ensures (kept .levels) (kept .keeps .levels .buffer) (sets-held _ (kept .levels) _ (kept .keeps
     .levels)) in
-    kept-stored kept l
+    (kept-stored kept l, ran .1)
 
 pub run-spec : {M : Type 1} → statement M
 run-spec =

@@ -1,5 +1,6 @@
 -- `run_by` comes to where the whole records end: at each turn, what is written and what the rest of the requests gives on the history and
--- the levels so far are what the whole run gives, what is kept is what they give, and before the end a whole record stands.
+-- the levels so far are what the whole run gives, what is kept is what they give, and before the end a whole record stands; from the end
+-- on none does.
 use Prim.Native.Nat.{ℕ, _-_, _%_}
 use native.Mathlib.Omega.{arith}
 use mathlib.Core.Path.{refl, sym, ap, _∙_}
@@ -11,7 +12,7 @@ use Rattle.keeping.specs.Keeping.{kept}
 use Rattle.running.specs.Running.{Kept}
 use Rattle.running.proofs.ClassOf.{class-is}
 use Rattle.running.proofs.Turns.{granted-one, done-granted}
-use Rattle.running.proofs.WholeRecords.{Left, starts, whole-before, below-end, goes-parsed}
+use Rattle.running.proofs.WholeRecords.{Left, starts, whole-before, below-end, due-from-end, goes-parsed}
 use Rattle.running.proofs.KeptTurns.{kept-none, serves-by, kept-sized, kept-room, kept-onward, kept-further, kept-more}
 use Rattle.running.proofs.kept.run_by.Statement.{statement}
 use Rattle.running.proofs.kept.run_by.Tie as tie
@@ -52,12 +53,12 @@ loop-holds c =
 sub-parse-whole : tie.Need-sub-parse-whole Inv-loop μ-loop
 sub-parse-whole c =
     let start = c .before .before .before .before .before .before .before .before .before in
-    omega (arith, below-end (c .before .loop .inv .1) (c .loop-test .taken) (start .pre .2))
+    omega (arith, below-end (c .before .loop .inv .1) (start .pre .2) (omega arith))
 
 part-parse-whole-start : tie.Need-part-parse-whole-start Inv-loop μ-loop
 part-parse-whole-start c =
     let start = c .before .before .before .before .before .before .before .before .before in
-    omega (arith, below-end (c .before .loop .inv .1) (c .loop-test .taken) (start .pre .2))
+    omega (arith, below-end (c .before .loop .inv .1) (start .pre .2) (omega arith))
 
 part-parse-whole-end : tie.Need-part-parse-whole-end Inv-loop μ-loop
 part-parse-whole-end c = search needs
@@ -65,14 +66,14 @@ part-parse-whole-end c = search needs
 parse-whole-requires : tie.Need-parse-whole-requires Inv-loop μ-loop
 parse-whole-requires c κs =
     let start = c .before .before .before .before .before .before .before .before .before .before in
-    rw part-to-end (whole-before (c .before .before .loop .inv .1) (c .before .loop-test .taken) (start .pre .2))
+    rw part-to-end (whole-before (c .before .before .loop .inv .1) (start .pre .2) (omega arith))
 
 add-at : tie.Need-add-at Inv-loop μ-loop
 add-at c =
     let at-test = c .before .before .before in
     let start = at-test .before .before .before .before .before .before .before .before .before in
     let looped = at-test .before .loop in
-    let below = below-end (looped .inv .1) (at-test .loop-test .taken) (start .pre .2) in
+    let below = below-end (looped .inv .1) (start .pre .2) (omega arith) in
     let parsed = rw part-to-end at (c .before .parse-whole .ensures .0) in
     omega (arith, start .good .1 .1 .1 .1 .1 .1 .1 .1 .1 .1 .0 .0, kept-onward (looped .inv .0) below (start .pre .1) parsed)
 
@@ -125,7 +126,7 @@ slice-write-answers c =
     let at-test = at-class .before .before .before .before .before .before .before .before in
     let start = at-test .before .before .before .before .before .before .before .before .before in
     let looped = at-test .before .loop in
-    let below = below-end (looped .inv .1) (at-test .loop-test .taken) (start .pre .2) in
+    let below = below-end (looped .inv .1) (start .pre .2) (omega arith) in
     kept-room (looped .inv .0) below (start .pre .1)
 
 add-answered : tie.Need-add-answered Inv-loop μ-loop
@@ -135,7 +136,7 @@ add-answered c =
     let at-test = at-class .before .before .before .before .before .before .before .before in
     let start = at-test .before .before .before .before .before .before .before .before .before in
     let looped = at-test .before .loop in
-    let below = below-end (looped .inv .1) (at-test .loop-test .taken) (start .pre .2) in
+    let below = below-end (looped .inv .1) (start .pre .2) (omega arith) in
     omega (arith, start .good .1 .1 .1 .1 .1 .1 .1 .1 .1 .1 .0 .0, below, looped .inv .0 .begun .further)
 
 granted-by-requires : tie.Need-granted-by-requires Inv-loop μ-loop
@@ -148,7 +149,7 @@ add-granted c =
     let at-test = at-class .before .before .before .before .before .before .before .before in
     let start = at-test .before .before .before .before .before .before .before .before .before in
     let looped = at-test .before .loop in
-    let below = below-end (looped .inv .1) (at-test .loop-test .taken) (start .pre .2) in
+    let below = below-end (looped .inv .1) (start .pre .2) (omega arith) in
     let one = granted-one (at-put .put .result) _ (c .granted-by .ensures) in
     let few = done-granted (looped .inv .0 .begun .done) in
     omega (arith, start .good .1 .1 .1 .1 .1 .1 .1 .1 .1 .1 .0 .0, below, looped .inv .0 .begun .further, few, one)
@@ -161,7 +162,7 @@ loop-less c =
     let at-test = at-parse .before .before in
     let start = at-test .before .before .before .before .before .before .before .before .before in
     let looped = at-test .before .loop in
-    let below = below-end (looped .inv .1) (at-test .loop-test .taken) (start .pre .2) in
+    let below = below-end (looped .inv .1) (start .pre .2) (omega arith) in
     let parsed = rw part-to-end at (at-parse .parse-whole .ensures .0) in
     let before = at-test .loop-test .taken in
     omega (arith, before, kept-further (looped .inv .0) below (start .pre .1) parsed)
@@ -174,10 +175,10 @@ loop-again c =
     let at-test = at-parse .before .before in
     let start = at-test .before .before .before .before .before .before .before .before .before in
     let looped = at-test .before .loop in
-    let below = below-end (looped .inv .1) (at-test .loop-test .taken) (start .pre .2) in
+    let below = below-end (looped .inv .1) (start .pre .2) (omega arith) in
     let known = at-parse .parse-whole .ensures in
     let parsed = rw part-to-end at (known .0) in
-    let whole = whole-before (looped .inv .1) (at-test .loop-test .taken) (start .pre .2) in
+    let whole = whole-before (looped .inv .1) (start .pre .2) (omega arith) in
     let t = start .args .t1 in
     let r = at-parse .parse-whole .result in
     let target = at-class .before .before .before .before .wide .ensures .0 in
@@ -199,7 +200,9 @@ same-length-2 : tie.Need-same-length-2 Inv-loop μ-loop
 same-length-2 c = c .before .loop .inv .0 .begun .same
 
 returns : tie.Need-returns Inv-loop μ-loop
-returns c = c .before .loop .inv .0
+returns c =
+    let start = c .before .before .before .before .before .before .before .before .before in
+    (c .before .loop .inv .0, due-from-end (c .before .loop .inv .1) (start .pre .2) (omega arith))
 
 pub run-by-spec : {M : Type 1} → statement M
 run-by-spec =
