@@ -1,4 +1,5 @@
-//! The algorithm of the proved monitor in plain Rust: the folders on which a
+//! A plain Rust run that keeps nothing from one request to the next, as the
+//! proved monitor did before it kept what it gathers: the folders on which a
 //! person stepped are found first, then one pass over the folders on which the
 //! person did anything; sets as masks, reads and writes by words, steps by
 //! doubling, the set of the declared persons made once a run. A level is read
