@@ -5,7 +5,7 @@ use native.Mathlib.Nat.{eq-or-lt-of-le, le-of-suc-le-suc, not-suc-le-zero, lt-su
 use native.Mathlib.Numerals.{add-one}
 use native.Mathlib.Omega.{arith}
 use mathlib.Core.Path.{_≡_, refl, sym, ap, ap₂, _∙_, subst}
-use mathlib.Core.Logic.{_⊎_, inl, inr, ⊎-elim, _↔_}
+use mathlib.Core.Logic.{_⊎_, inl, inr, ⊎-elim}
 use mathlib.Core.Bool.{Bool, true, false, cond, _&&_, _||_, false≢true}
 use Rattle.bits.specs.Bounded.{anyBelow, allBelow, foldBelow, countBelow}
 use Rattle.bits.proofs.Booleans.{and-left, and-right, and-both, or-cases, or-left, or-right, or-neither, false-intro, false-elim}
@@ -37,9 +37,6 @@ some-any (suc n) p k h e =
     ⊎-elim (λ (q : k ≡ n). or-left (p n) (anyBelow n p) (subst (λ (i : ℕ). p i ≡ true) q e))
     (λ l. or-right (p n) (anyBelow n p) (some-any n p k l e))
     (eq-or-lt-of-le (le-of-suc-le-suc h))
-
-pub any-iff : (n : ℕ) (p : ℕ → Bool) → (anyBelow n p ≡ true) ↔ ((k : ℕ) × (k < n) × (p k ≡ true))
-any-iff n p = (any-some n p, λ w. some-any n p (w .0) (w .1) (w .2))
 
 pub any-ext : (n : ℕ) (p q : ℕ → Bool) → ((k : ℕ) → k < n → p k ≡ q k) → anyBelow n p ≡ anyBelow n q
 unfolding anyBelow
@@ -101,14 +98,6 @@ pub fold-step : {A : Type 0} (n : ℕ) (f : ℕ → A → A) (a : A) {x y : A}
 fold-step n f a before turn = turn ∙ ap (f n) before ∙ sym (fold-more n f a)
 
 -- ---- the number of
-
-pub count-start : (p : ℕ → Bool) → countBelow 0 p ≡ 0
-unfolding countBelow
-count-start p = refl
-
-pub count-more : (n : ℕ) (p : ℕ → Bool) → countBelow (n + 1) p ≡ cond (p n) 1 0 + countBelow n p
-unfolding countBelow
-count-more n p = ap (λ (m : ℕ). countBelow m p) (add-one n)
 
 pub count-ext : (n : ℕ) (p q : ℕ → Bool) → ((k : ℕ) → k < n → p k ≡ q k) → countBelow n p ≡ countBelow n q
 unfolding countBelow

@@ -1,12 +1,11 @@
 -- A request is judged by what is known of it: tests and sets that say of each rule in force what the rule's definition says. A rule that is
 -- not in force refuses nothing, so nothing needs to be known for it. Where the sets come from does not matter here.
-use Prim.Native.Nat.{ℕ, _+_, _%_, _<_}
+use Prim.Native.Nat.{ℕ, _+_, _<_}
 use native.Mathlib.Omega.{arith}
-use mathlib.Core.Path.{_≡_, refl, sym, ap, ap₂, _∙_}
+use mathlib.Core.Path.{_≡_, refl, sym, ap, _∙_}
 use mathlib.Core.Logic.{_≢_}
 use mathlib.Core.Bool.{Bool, true, false, cond, _&&_, and-true}
-use mathlib.Core.List.{List}
-use Rattle.bits.specs.Bits.{bit, withBit, maskBelow}
+use Rattle.bits.specs.Bits.{bit}
 use Rattle.bits.specs.Bounded.{_implies_}
 use Rattle.bits.proofs.Booleans.{and-both, false-elim}
 use Rattle.level.specs.declared.Comparison.{Comparison}
@@ -14,26 +13,9 @@ use Rattle.level.specs.declared.Level.{Level}
 use Rattle.policy.specs.declared.Folder.{Folder}
 use Rattle.policy.specs.declared.Tables.{Tables}
 use Rattle.policy.specs.Tables.{folderAt, personDeclared, folderDeclared, inForce, wallRule, rolesRule, pipelineRule}
-use Rattle.policy.specs.Rulebook.{given}
-use Rattle.policy.specs.Request.{Request, read, write, start, step, subject}
-use Rattle.policy.specs.Rules.{
-  declared,
-  right,
-  wall,
-  wallAccess,
-  used,
-  done,
-  modifyOutcome,
-  levelOutcome,
-  roles,
-  pipelineStep,
-  pipeline,
-}
+use Rattle.policy.specs.Request.{Request, start, step, subject}
+use Rattle.policy.specs.Rules.{declared, right, wall, wallAccess, modifyOutcome, levelOutcome, roles, pipelineStep, pipeline}
 use Rattle.policy.proofs.Requests.{step-declared}
-use Rattle.rules.specs.Sets.{HasRoles, rolesIn}
-use Rattle.rules.proofs.SetLaws.{roles-in}
-use Rattle.pipeline.specs.Steps.{pipelineIn}
-use Rattle.pipeline.proofs.StepLaws.{pipeline-in}
 use Rattle.request.specs.Parsed.{accessBy}
 use Rattle.judging.specs.declared.question.Question.{Question}
 use Rattle.judging.specs.Judging.{outcomeIf, numberOf, accessRight, judged}
@@ -88,73 +70,6 @@ module _ {t : Tables} {H : Request → Bool} {levels : ℕ → ℕ} {r : Request
   pub pipeline-decides : {n x : ℕ} → Decides t H levels r mask w c k p → n ≡ numberOf mask w c k true → n ≡ 0
       → x ≡ cond (bit mask pipelineRule implies p) 0 17 → x ≡ judged t H levels r
   pipeline-decides d passed zero e = e ∙ sym (passed-three mask w k p c (sym zero ∙ passed)) ∙ whole d
-
--- ---- each kind of request
-
-module _ (t : Tables) (H : Request → Bool) (levels : ℕ → ℕ) (ok : given t ≡ true) {mask : ℕ} (rules : mask ≡ t .mask) {own : List ℕ}
-    (has : HasRoles t own) (s : ℕ) {used-set stored : ℕ} (person : personDeclared t s ≡ true)
-    (rights : inForce t rolesRule ≡ true → used-set ≡ maskBelow 64 (used t H s)) (level : stored ≡ levels s) where
-  roles-known : (r : Request) (x : ℕ) → declared t r ≡ true → subject r ≡ s → x ≡ right t r → inForce t rolesRule ≡ true
-      → rolesIn own (withBit used-set (x % 64)) ≡ roles t H r
-  roles-known r x d e f on =
-      roles-in t H s ok r d e own (withBit used-set (x % 64)) has (ap₂ (λ (u v : ℕ). withBit u (v % 64)) (rights on) f)
-
-  module _ (o : ℕ) {e : Folder} {w : Bool} (folder : folderDeclared t o ≡ true) (entry : e ≡ folderAt t o)
-      (walls : inForce t wallRule ≡ true → w ≡ wallAccess t H s o) where
-    pub access-decides : (writes : Bool) {x : ℕ} → x ≡ accessRight writes (e .kind)
-        → Decides t H levels (accessBy writes s o) mask w (outcomeIf writes (e .level .0) stored)
-        (rolesIn own (withBit used-set (x % 64))) true
-    unfolding accessBy accessRight outcomeIf declared wall levelOutcome modifyOutcome right pipeline subject
-    access-decides true uses =
-        let d = and-both _ _ person folder in
-        record {
-          parties = d;
-          rules = rules;
-          wallSays = walls;
-          outcome = rw (entry, level);
-          rolesSay = roles-known (write s o) _ d refl (uses ∙ rw entry);
-          pipelineSays = λ on. refl;
-        }
-    access-decides false uses =
-        let d = and-both _ _ person folder in
-        record {
-          parties = d;
-          rules = rules;
-          wallSays = walls;
-          outcome = refl;
-          rolesSay = roles-known (read s o) _ d refl (uses ∙ rw entry);
-          pipelineSays = λ on. refl;
-        }
-
-    pub step-decides : (p : ℕ) {done-set : ℕ} {sets : List ℕ} → p < 16 → sets ≡ t .steps
-        → (inForce t pipelineRule ≡ true → done-set ≡ maskBelow 16 (done t H o))
-        → Decides t H levels (step s p o) mask w (outcomeIf true (e .level .0) stored)
-        (rolesIn own (withBit used-set ((48 + p) % 64))) (pipelineIn sets done-set p)
-    unfolding outcomeIf wall levelOutcome modifyOutcome right pipeline subject
-    step-decides p {done-set} {sets} below enabling steps =
-        let d = step-declared t s p o person below folder in
-        record {
-          parties = d;
-          rules = rules;
-          wallSays = walls;
-          outcome = rw (entry, level);
-          rolesSay = roles-known (step s p o) _ d refl refl;
-          pipelineSays = λ on. pipeline-in t H o sets done-set p enabling (steps on) below;
-        }
-
-  pub start-decides : (u : ℕ) {other : ℕ} → personDeclared t u ≡ true → other ≡ levels u
-      → Decides t H levels (start s u) mask true (outcomeIf true other stored) (rolesIn own (withBit used-set (32 % 64))) true
-  unfolding outcomeIf declared wall levelOutcome right pipeline subject
-  start-decides u second raised =
-      let d = and-both _ _ person second in
-      record {
-        parties = d;
-        rules = rules;
-        wallSays = λ on. refl;
-        outcome = rw (level, raised);
-        rolesSay = roles-known (start s u) 32 d refl refl;
-        pipelineSays = λ on. refl;
-      }
 
 -- ---- one request alone
 

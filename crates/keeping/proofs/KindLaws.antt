@@ -20,7 +20,21 @@ use Rattle.policy.specs.Tables.{folderAt}
 use Rattle.policy.specs.Rules.{right}
 use Rattle.policy.specs.OneMore.{folderOf, stepOf}
 use Rattle.request.specs.Parsed.{requestFor}
-use Rattle.keeping.specs.Kinds.{kindRows, rowOf, placedBy, rightBy, askedBy, placeOf, targetOf, asksLevel, lowers, isAccess, isStep, PlacedAs, RowOf}
+use Rattle.keeping.specs.Kinds.{
+  kindRows,
+  rowOf,
+  placedBy,
+  rightBy,
+  askedBy,
+  placeOf,
+  targetOf,
+  asksLevel,
+  lowers,
+  isAccess,
+  isStep,
+  PlacedAs,
+  RowOf,
+}
 
 -- ---- the four kinds
 

@@ -1,10 +1,10 @@
-// What a person did: the rights used and the firms opened. The pass visits the folders that the person
-// read, wrote in or stepped on, and no others. `steps` finds the persons who stepped on each folder, and the folders on which one person
-// did; `applied` finds the steps that a person applied. `wall` and `rights` find what the wall and the roles ask about for one request
-// alone, and the current level is apart, in `levels`. Each public function is called for a declared person, over tables that a load gives
-// and a history of 18,944 bytes. Indexes of bits (document 01, "History"), for person s: 128 * s + o for a read of folder o, 8192 more
-// for a write, 16384 + 64 * s + u for a start of person u, 20480 + 64 * (16 * o + p) + s for step p on folder o. Rights: the folder's
-// kind for a read, 16 + kind for a write, 32 for a start, 48 + p for step p.
+// What a person did: the rights used and the firms opened. The pass visits the folders that the person read, wrote in or stepped on, and no
+// others. `steps` finds the persons who stepped on each folder, and the folders on which one person did; `applied` finds the steps that a
+// person applied. `wall` and `rights` find what the wall and the roles ask about for one request alone, and the current level is apart, in
+// `levels`. Each public function is called for a declared person, over tables that a load gives and a history of 18,944 bytes. Indexes of
+// bits (document 01, "History"), for person s: 128 * s + o for a read of folder o, 8192 more for a write, 16384 + 64 * s + u for a start of
+// person u, 20480 + 64 * (16 * o + p) + s for step p on folder o. Rights: the folder's kind for a read, 16 + kind for a write, 32 for a
+// start, 48 + p for step p.
 ghost use mathlib.Core.Path.{_≡_};
 ghost use mathlib.Core.Bool.{true};
 ghost use Prim.Native.Nat.{_+_, _%_, _≤_, _<_};
