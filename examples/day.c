@@ -1,7 +1,7 @@
 /* The marked day of document 01 (P1): loads the printed book, runs its ten requests from blank and prints the answers. Then a lobby with
  * a public folder, a book that is refused with 19, a post room whose steps lower, the level that is then stored for its person, a call
- * that is answered 20, and a front counter that is told which clearance to request. Exits with 1 if something else is answered than
- * stands here. */
+ * that is answered 20, a front counter that is told which clearance to request, and jobs that a planner puts in an order. Exits with 1 if
+ * something else is answered than stands here. */
 #include "kweldabe.h"
 
 #include <stdio.h>
@@ -56,6 +56,19 @@ static const uint8_t attempts[] = {17, 0, 0, 17, 0, 1, 17, 0, 2, 18, 0, 1, 18, 1
 
 static const uint8_t told[] = {21, 15, 15, 21, 15};
 
+/* Low-water and the pipeline: folder 1 is below folder 0, and step 0 enables 1, which enables 2. */
+static const uint8_t planners[] = {
+    1, 10, 2, 0, 0, 3, 0, 3, 32, 4, 0, 0, 0, 3, 32, 4, 1, 0, 0, 1, 16, 6, 0, 1, 6, 1, 2, 0,
+};
+
+/* Steps 2, 1 and 0 on folder 1, and a write in folder 0, which must come before a step lowers the person: one order is left. */
+static const uint8_t jobs[] = {19, 0, 1, 2, 19, 0, 1, 1, 19, 0, 1, 0, 17, 0, 0, 0};
+
+static const uint8_t order[] = {3, 2, 1, 0};
+
+/* A list with a start. */
+static const uint8_t with_start[] = {17, 0, 0, 0, 18, 0, 0, 0};
+
 static uint8_t history[KWELDABE_HISTORY_BYTES];
 static uint8_t levels[KWELDABE_LEVELS_BYTES];
 static uint8_t answers[sizeof expected];
@@ -109,6 +122,33 @@ static int clearance_is_told(void) {
     return answered("front counter", front_counter, sizeof front_counter, attempts, sizeof attempts, told, sizeof told);
 }
 
+/* The number of a plan for jobs, from the history and the levels as they are. */
+static uint8_t planned(const uint8_t *list, size_t list_length, uint8_t *positions, size_t count) {
+    return kweldabe_plan(planners, sizeof planners, history, sizeof history, levels, sizeof levels, list, list_length, positions, count);
+}
+
+/* The order from blank, then zeros. The first job alone has no order, a list with a start is refused, and so are too few positions: the
+ * positions stay. */
+static int jobs_have_an_order(void) {
+    uint8_t positions[KWELDABE_MOST_JOBS];
+    static const uint8_t zeros[sizeof positions - sizeof order];
+    memset(positions, 99, sizeof positions);
+    if (kweldabe_blank(planners, sizeof planners, history, sizeof history, levels, sizeof levels) != 0 ||
+        planned(jobs, sizeof jobs, positions, sizeof positions) != 0) {
+        return 0;
+    }
+    printf("order");
+    for (size_t i = 0; i < sizeof order; i++) {
+        printf(" %u", (unsigned)positions[i]);
+    }
+    const uint8_t alone = planned(jobs, 4, positions, sizeof positions);
+    const uint8_t start = planned(with_start, sizeof with_start, positions, sizeof positions);
+    const uint8_t fewer = planned(jobs, sizeof jobs, positions, sizeof positions - 1);
+    printf("\nthe first job alone %u, with a start %u, fewer positions %u\n", (unsigned)alone, (unsigned)start, (unsigned)fewer);
+    return memcmp(positions, order, sizeof order) == 0 && memcmp(positions + sizeof order, zeros, sizeof zeros) == 0 && alone == 23 &&
+           start == 22 && fewer == 18;
+}
+
 int main(void) {
     const uint64_t loaded = kweldabe_load(book, sizeof book);
     if ((loaded & 0xff) != 0) {
@@ -126,5 +166,5 @@ int main(void) {
     printf("granted %u refused %u\n", (unsigned)(ran >> 8 & 0xffffff), (unsigned)(ran >> 32 & 0xffffff));
     const int same = memcmp(answers, expected, sizeof expected) == 0;
     const int counted = ran == ((uint64_t)5 << 32 | 5 << 8);
-    return same && counted && lobby_is_open() && steps_alter() && levels_are_held() && clearance_is_told() ? 0 : 1;
+    return same && counted && lobby_is_open() && steps_alter() && levels_are_held() && clearance_is_told() && jobs_have_an_order() ? 0 : 1;
 }

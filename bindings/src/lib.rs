@@ -1,7 +1,7 @@
 //! The access monitor of document 01, with Points 1 (public folders), 2 (a
-//! step alters the folder), 3 (empty stretches skipped), 4 (levels held ready)
-//! and 5 (rank or compartment) of document 02, proved in Rattle and called from
-//! Rust.
+//! step alters the folder), 3 (empty stretches skipped), 4 (levels held ready),
+//! 5 (rank or compartment) and 6 (an order for the day's jobs) of document 02,
+//! proved in Rattle and called from Rust.
 //!
 //! A call that needs the tables of a rulebook takes the bytes of the book and
 //! loads it. A refused book is answered with its number, 1 to 9 or 19. A call
@@ -25,6 +25,16 @@
 //! standing take the level stored, also where the history would give another. A
 //! call with levels of another length is answered 20, after 10.
 //!
+//! A plan is an order in which all jobs of a list are granted, from the history
+//! and the levels as they are. A job is a request with its kind as the action;
+//! its step is passed over unless the action is 19, and a record that is listed
+//! twice is put twice. Which such order is handed back is free. A list of more
+//! than 64 jobs, or with a start or a record that 12 or 13 would refuse, is
+//! answered 22. One without an order is answered 23. Where the history and the
+//! levels are those that some list put from blank leaves, 23 comes only if every
+//! order has a refusal; elsewhere it may come though there is an order. Nothing
+//! lent is written but the positions.
+//!
 //! The exported functions ask nothing of their arguments but what slices of
 //! Rust always keep: pointers that are not null, lengths that are right, and
 //! no other use of what is lent for writing.
@@ -40,6 +50,9 @@ pub const LEVELS_BYTES: usize = 128;
 /// The most request bytes of one run: its counts cross the boundary in 24
 /// bits each, and a run has no more answers than request bytes.
 pub const MOST_REQUEST_BYTES: usize = (1 << 24) - 1;
+
+/// The most jobs of a list, and the positions of a plan.
+pub const MOST_JOBS: usize = 64;
 
 /// What loading returns: 0 or the number of the refusal (1 to 9, or 19), and
 /// the offset of the end record or of the refused one.
@@ -65,6 +78,26 @@ pub struct Standing {
     pub level: u16,
     pub rights: usize,
     pub firms: usize,
+}
+
+/// One job of a list: the kind of a request, its person, its folder, and its step
+/// if it is one. A start's target would be its second person, but no list with a
+/// start has a plan.
+#[repr(C)]
+#[derive(Clone, Copy, PartialEq, Eq, Debug)]
+pub struct Job {
+    pub action: u8,
+    pub person: u8,
+    pub target: u8,
+    pub step: u8,
+}
+
+/// What planning returns: the positions are each place of the list, from 0, once,
+/// in the order of putting, then zeros; all zeros if the number is not 0.
+#[derive(Clone, Copy, PartialEq, Eq, Debug)]
+pub struct Plan {
+    pub number: u8,
+    pub positions: [u8; MOST_JOBS],
 }
 
 /// More than [`MOST_REQUEST_BYTES`] request bytes; nothing was done.
@@ -135,4 +168,26 @@ pub fn standing(book: &[u8], history: &[u8], levels: &[u8], person: u8) -> Stand
         rights: field(packed, 24, 8) as usize,
         firms: field(packed, 32, 8) as usize,
     }
+}
+
+/// An order in which all jobs are granted: 0, 10, 20, 22, 23, or the number of a
+/// refused book.
+pub fn plan(book: &[u8], history: &[u8], levels: &[u8], jobs: &[Job]) -> Plan {
+    let mut positions = [0; MOST_JOBS];
+    let number = plan_bytes(book, history, levels, raw::bytes_of(jobs), &mut positions);
+    Plan { number, positions }
+}
+
+/// The same over jobs as bytes, four a job: action, person, target and step. A
+/// last job cut short is answered 22, and fewer than 64 lent positions 18, after
+/// 10 and 20. With 0 the first 64 bytes of the positions are written; with another
+/// number, and past these, all bytes stay.
+pub fn plan_bytes(
+    book: &[u8],
+    history: &[u8],
+    levels: &[u8],
+    jobs: &[u8],
+    positions: &mut [u8],
+) -> u8 {
+    raw::plan(book, history, levels, jobs, positions)
 }

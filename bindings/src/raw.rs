@@ -1,5 +1,7 @@
 //! The exported functions. A slice crosses as a pointer and a length.
 
+use crate::Job;
+
 extern "C" {
     fn kweldabe_blank(
         book: *const u8,
@@ -52,6 +54,18 @@ extern "C" {
         levels_length: usize,
         person: u8,
     ) -> u64;
+    fn kweldabe_plan(
+        book: *const u8,
+        book_length: usize,
+        history: *const u8,
+        history_length: usize,
+        levels: *const u8,
+        levels_length: usize,
+        jobs: *const u8,
+        jobs_length: usize,
+        positions: *mut u8,
+        positions_length: usize,
+    ) -> u8;
 }
 
 // SAFETY, for every call below: each pointer and length are those of a live
@@ -145,4 +159,27 @@ pub fn standing(book: &[u8], history: &[u8], levels: &[u8], person: u8) -> u64 {
             person,
         )
     }
+}
+
+pub fn plan(book: &[u8], history: &[u8], levels: &[u8], jobs: &[u8], positions: &mut [u8]) -> u8 {
+    unsafe {
+        kweldabe_plan(
+            book.as_ptr(),
+            book.len(),
+            history.as_ptr(),
+            history.len(),
+            levels.as_ptr(),
+            levels.len(),
+            jobs.as_ptr(),
+            jobs.len(),
+            positions.as_mut_ptr(),
+            positions.len(),
+        )
+    }
+}
+
+/// The bytes of jobs, four a job in the order of the fields.
+pub fn bytes_of(jobs: &[Job]) -> &[u8] {
+    // SAFETY: a job is four bytes in this order, with none between them.
+    unsafe { std::slice::from_raw_parts(jobs.as_ptr().cast(), std::mem::size_of_val(jobs)) }
 }

@@ -32,7 +32,7 @@ pub struct Standing {
 
 /// The checks 10, 20 and 11, in this order, with which every call but load
 /// begins.
-fn check_lent(tables: &Tables, history: &[u8], levels: &[u8]) -> u8 {
+pub fn check_lent(tables: &Tables, history: &[u8], levels: &[u8]) -> u8 {
     if history.len() != HISTORY_BYTES {
         return HISTORY_LENGTH;
     }

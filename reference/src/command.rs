@@ -50,6 +50,10 @@ pub enum Command {
         at: u8,
         value: u8,
     },
+    Plan {
+        lent: Lengths,
+        jobs: Vec<u8>,
+    },
 }
 
 impl Lengths {
@@ -72,6 +76,7 @@ impl Command {
             Command::Byte { .. } => 8,
             Command::Fill { .. } => 9,
             Command::LevelByte { .. } => 10,
+            Command::Plan { .. } => 11,
         }
     }
 
@@ -101,6 +106,11 @@ impl Command {
             Command::Standing { lent, person } => {
                 bytes.extend(lent.as_bytes());
                 bytes.push(*person);
+            }
+            Command::Plan { lent, jobs } => {
+                bytes.extend(lent.as_bytes());
+                bytes.extend((jobs.len() as u16).to_le_bytes());
+                bytes.extend(jobs);
             }
             change => bytes.extend(change.fields_of_change()),
         }
@@ -202,6 +212,10 @@ impl Reader<'_> {
                 lent: self.lengths()?,
                 person: self.one()?,
             },
+            11 => Command::Plan {
+                lent: self.lengths()?,
+                jobs: self.long_bytes()?,
+            },
             other => return self.change(other),
         };
         Some(command)
@@ -280,6 +294,10 @@ mod tests {
         });
         commands.push(Command::Fill { value: 7 });
         commands.push(Command::LevelByte { at: 200, value: 3 });
+        commands.push(Command::Plan {
+            lent: lent(18_944, 128),
+            jobs: vec![19; 300],
+        });
         for (place, command) in commands.into_iter().enumerate() {
             let bytes = command.as_bytes();
             assert_eq!(usize::from(bytes[0]), 1 + place);
@@ -287,7 +305,7 @@ mod tests {
             assert_eq!(reader.command(), Some(command));
             assert!(reader.left.is_empty());
         }
-        let mut unknown = Reader { left: &[11, 0, 0] };
+        let mut unknown = Reader { left: &[12, 0, 0] };
         assert_eq!(unknown.command(), None);
     }
 }

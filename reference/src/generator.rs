@@ -5,6 +5,7 @@ mod altered;
 mod books;
 mod clearance;
 mod held;
+mod jobs;
 mod lengths;
 mod marks;
 mod plans;
@@ -112,6 +113,13 @@ impl Generator {
 
     fn fill(&mut self, value: u8) {
         self.send(Command::Fill { value });
+    }
+
+    fn plan(&mut self, jobs: &[u8]) {
+        self.send(Command::Plan {
+            lent: WHOLE,
+            jobs: jobs.to_vec(),
+        });
     }
 
     fn level_byte(&mut self, at: usize, value: u8) {

@@ -1,5 +1,6 @@
 //! The marked book and requests of the section "The program `answers`", a book
-//! with a public folder and one whose steps alter.
+//! with a public folder, one whose steps alter, one of rank or compartment and one
+//! of jobs in an order.
 
 pub const BOOK: [u8; 54] = [
     1, 15, // all four rules
@@ -77,3 +78,22 @@ pub const CLEARANCE_REQUESTS: [u8; 15] = [17, 0, 0, 17, 0, 1, 17, 0, 2, 18, 0, 1
 
 /// Their answers from blank.
 pub const CLEARANCE_ANSWERS: [u8; 5] = [21, 15, 15, 21, 15];
+
+/// One person, and two folders: of the person's level and of a lower one. Step 0
+/// enables 1, and 1 enables 2.
+pub const ORDER_BOOK: [u8; 28] = [
+    1, 10, // low-water and pipeline
+    2, 0, 0, // one firm
+    3, 0, 3, 32, // one person
+    4, 0, 0, 0, 3, 32, 4, 1, 0, 0, 1, 16, // folders
+    6, 0, 1, 6, 1, 2, // pairs
+    0,
+];
+
+/// Steps 2, 1 and 0 on the lower folder, and a write in the other, whose step is
+/// passed over.
+pub const ORDER_JOBS: [u8; 16] = [19, 0, 1, 2, 19, 0, 1, 1, 19, 0, 1, 0, 17, 0, 0, 77];
+
+/// The only order that is granted from blank: the first step lowers the person
+/// below the write.
+pub const ORDER: [u8; 4] = [3, 2, 1, 0];

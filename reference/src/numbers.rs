@@ -1,5 +1,6 @@
 //! The published numbers (the table in "Requests and calls", and of the later
-//! requests Point 1 for 19, Point 4 for 20 and Point 5 for 15 and 21).
+//! requests Point 1 for 19, Point 4 for 20, Point 5 for 15 and 21 and Point 6 for
+//! 22 and 23).
 
 /// Granted, loaded, blanked, run: the call did what was asked.
 pub const GRANTED: u8 = 0;
@@ -47,3 +48,8 @@ pub const LEVELS_LENGTH: u8 = 20;
 /// Refused by low-water: the rank suffices and a compartment is missing. It is
 /// checked in the place of 15.
 pub const LOW_WATER_COMPARTMENT: u8 = 21;
+/// A list of jobs longer than 64, or with a start or a record that 12 or 13 would
+/// refuse.
+pub const JOBS_REFUSED: u8 = 22;
+/// No order of the jobs is granted throughout.
+pub const NO_ORDER: u8 = 23;

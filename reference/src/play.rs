@@ -6,6 +6,7 @@ use crate::calls::{blank, judge, put, run, standing};
 use crate::command::{Command, Lengths, Reader};
 use crate::fields::{digest, set_field, table_bytes};
 use crate::numbers::GRANTED;
+use crate::plan::{plan, Job, Plan, JOB_BYTES};
 use crate::tables::Tables;
 use std::collections::BTreeMap;
 
@@ -65,6 +66,7 @@ impl Player {
             Command::LevelByte { at, value } => {
                 self.levels[usize::from(*at) % LEVEL_BUFFER] = *value;
             }
+            Command::Plan { lent, jobs } => self.plan(lent, jobs),
         }
     }
 
@@ -150,6 +152,38 @@ impl Player {
         ));
     }
 
+    fn plan(&mut self, lent: &Lengths, jobs: &[u8]) {
+        let (tables, history, levels) = self.lend(lent);
+        let planned = plan(tables, history, levels, jobs);
+        self.count("plan", planned.number);
+        self.put_planned(lent, jobs, &planned);
+    }
+
+    /// Puts the jobs in the order of a plan, if its number is 0, and prints its
+    /// line.
+    pub fn put_planned(&mut self, lent: &Lengths, jobs: &[u8], planned: &Plan) {
+        let jobs: Vec<Job> = jobs.chunks(JOB_BYTES).filter_map(Job::of_bytes).collect();
+        let count = match planned.number {
+            GRANTED => jobs.len().min(planned.positions.len()),
+            _ => 0,
+        };
+        let (order, rest) = planned.positions.split_at(count);
+        let mut granted = 0;
+        for position in order {
+            let job = jobs.get(usize::from(*position));
+            let record = job.map_or(Vec::new(), Job::record);
+            let (tables, history, levels) = self.lend(lent);
+            granted += usize::from(put(tables, history, levels, &record) == GRANTED);
+        }
+        self.print(format!(
+            "plan {} {} {} {}",
+            planned.number,
+            granted,
+            rest.iter().filter(|position| **position != 0).count(),
+            self.digests()
+        ));
+    }
+
     fn print(&mut self, line: String) {
         self.text.push_str(&line);
         self.text.push('\n');
@@ -201,7 +235,7 @@ mod tests {
             assert_eq!(play(&bytes[..length]).text, "");
         }
         assert_eq!(play(&[0, 2, 0, 74, 128]).text, "");
-        assert_eq!(play(&[11, 2, 0, 74, 128]).text, "");
+        assert_eq!(play(&[12, 2, 0, 74, 128]).text, "");
     }
 
     #[test]

@@ -88,7 +88,7 @@ pub fn rights_used(tables: &Tables, history: &History, person: u8) -> [bool; 64]
 }
 
 /// The steps done on a folder by anyone.
-fn steps_done(tables: &Tables, history: &History, on: u8) -> BTreeSet<usize> {
+pub fn steps_done(tables: &Tables, history: &History, on: u8) -> BTreeSet<usize> {
     let mut done = BTreeSet::new();
     for request in counted(tables, history) {
         if let Request::Step { step, folder, .. } = *request {

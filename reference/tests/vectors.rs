@@ -2,7 +2,8 @@
 //! published number of every call and every kind of record, and requests on
 //! which a wall that counts public folders, a low-water rule that passes steps,
 //! a level that skips reads or another reading of the levels held ready or of the
-//! two numbers of low-water would answer otherwise.
+//! two numbers of low-water would answer otherwise; and plans on which a planner
+//! that reads Point 6 otherwise would.
 
 #[path = "vectors/clearance.rs"]
 mod clearance;
@@ -12,6 +13,8 @@ mod held;
 mod monitor;
 #[path = "vectors/past.rs"]
 mod past;
+#[path = "vectors/planned.rs"]
+mod planned;
 #[path = "vectors/walk.rs"]
 mod walk;
 
@@ -29,7 +32,7 @@ fn committed_files_equal_what_is_written() {
     let played = play(&committed_calls);
     assert!(played.text.as_bytes() == committed_text, "the text differs");
     // The program that plays the calls holds so many bytes of them.
-    assert!(committed_calls.len() <= 393_216);
+    assert!(committed_calls.len() <= 458_752);
     assert!(committed_text.len() < 550_000);
 }
 
@@ -38,7 +41,7 @@ fn committed_files_equal_what_is_written() {
 fn every_number_of_every_call() {
     let requests = (12..=17).chain([21]);
     let judged: Vec<u8> = [0].into_iter().chain(10..=17).chain([20, 21]).collect();
-    let calls: [(&str, Vec<u8>); 7] = [
+    let calls: [(&str, Vec<u8>); 8] = [
         ("load", (0..=9).chain([19]).collect()),
         ("blank", vec![0, 10, 11, 20]),
         ("judge", judged.clone()),
@@ -46,6 +49,7 @@ fn every_number_of_every_call() {
         ("run", vec![0, 10, 11, 18, 20]),
         ("answer in a run", [0].into_iter().chain(requests).collect()),
         ("standing", vec![0, 10, 11, 13, 20]),
+        ("plan", vec![0, 10, 11, 20, 22, 23]),
     ];
     let tally = play(&committed("stdin")).tally;
     for (call, numbers) in &calls {
@@ -57,7 +61,7 @@ fn every_number_of_every_call() {
         assert_eq!(given, *numbers, "{call}");
     }
     let published: BTreeSet<u8> = calls.into_iter().flat_map(|(_, numbers)| numbers).collect();
-    assert_eq!(published, (0..=21).collect());
+    assert_eq!(published, (0..=23).collect());
 }
 
 /// How many records of each kind a loaded book has.

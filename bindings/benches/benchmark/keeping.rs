@@ -43,7 +43,7 @@ struct Did {
 /// its compartments, from bit 17 on. Then the meet is the intersection, and "at
 /// most" is inclusion; of the bits that lack, the lowest tells rank from
 /// compartment.
-fn set_of_level(level: u16) -> u32 {
+pub fn set_of_level(level: u16) -> u32 {
     let ranks = (1 << (level >> 12)) - 1;
     (ranks | u32::from(level & 0xfff) << 15) << 2
 }
@@ -311,14 +311,26 @@ pub fn run(
     if answers.len() < due {
         return (18, 0, 0);
     }
+    let (granted, refused) = run_loaded(&t, history, levels, requests, &mut answers[..due]);
+    (0, granted, refused)
+}
+
+/// The same with the tables of a load and as many answers as are due: the granted
+/// and refused requests.
+pub fn run_loaded(
+    t: &Tables,
+    history: &mut [u8; HISTORY_BYTES],
+    levels: &mut [u8],
+    requests: &[u8],
+    answers: &mut [u8],
+) -> (usize, usize) {
     let few = if t.mask & 5 != 0 {
         FEW
     } else {
         FEW_WITHOUT_PAST
     };
-    let (granted, refused) = match due <= few {
-        true => run_alone(&t, history, levels, requests, answers),
-        false => KEEPING[usize::from(t.mask) % 16](&t, history, levels, requests, answers),
-    };
-    (0, granted, refused)
+    match answers.len() <= few {
+        true => run_alone(t, history, levels, requests, answers),
+        false => KEEPING[usize::from(t.mask) % 16](t, history, levels, requests, answers),
+    }
 }

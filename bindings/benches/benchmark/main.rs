@@ -1,8 +1,9 @@
 //! Compares the proved monitor with plain Rust: one run call on the same bytes,
 //! nanoseconds a request. One side of plain Rust has the algorithm of a monitor
 //! that walks what a person did at each request; the other gathers it once and
-//! keeps it. All must give the same. Then one judge, and the load of a book. At
-//! the end it prints the bars; the exit status is not 0 if one is missed.
+//! keeps it. All must give the same. Then one judge, the load of a book, and plans
+//! of 64 jobs. At the end it prints the bars; the exit status is not 0 if one is
+//! missed.
 
 mod alone;
 mod bars;
@@ -11,11 +12,14 @@ mod gathering;
 mod inputs;
 mod keeping;
 mod kinds;
+mod planning;
+mod plans;
 mod shared;
 mod tables;
 
 use bars::Row;
 use inputs::{inputs, Input, Lent, Workload, MONTH, ONE_JUDGE, ONE_REQUEST, WORKLOADS};
+use plans::{LISTS, PLANS};
 use shared::{HISTORY_BYTES, LEVELS_BYTES};
 use std::env;
 use std::hint::black_box;
@@ -45,6 +49,10 @@ const NO_RULE: u8 = 0;
 const HEADING: &str =
     "| workload | mask | requests | granted | proved, ns | plain Rust, ns | ratio | keeping Rust, ns | ratio |
 |---|---|---|---|---|---|---|---|---|";
+
+const PLANS_HEADING: &str =
+    "| plan of 64 jobs | mask | in an order | proved, ns | plain Rust, ns | ratio |
+|---|---|---|---|---|---|";
 
 /// The memory on which every side runs, one after another.
 struct Ground {
@@ -165,9 +173,9 @@ impl<const SIDES: usize> Measured<SIDES> {
     fn pass(
         &mut self,
         ground: &mut Ground,
+        inputs: Vec<Input>,
         measure: impl Fn(&mut Ground, &Input, usize) -> (usize, [f64; SIDES]),
     ) {
-        let inputs = inputs(self.workload, self.mask);
         for _ in 0..ROUNDS {
             for (k, input) in inputs.iter().enumerate() {
                 let (zeros, times) = measure(ground, input, self.workload.requests);
@@ -228,12 +236,23 @@ impl<const SIDES: usize> Measured<SIDES> {
     }
 }
 
+impl Measured<2> {
+    /// Prints a row of plans: nanoseconds a plan of each side.
+    fn print_plan(&self) {
+        let [proved, plain] = self.sums().map(|sum| sum / PLANS as f64);
+        let (name, granted) = (self.workload.name, self.granted[0]);
+        print!("| {name} | {} | {granted} | ", self.mask);
+        println!("{proved:.0} | {plain:.0} | {:.2} |", proved / plain);
+    }
+}
+
 /// All that is measured.
 struct Figures {
     runs: Vec<Measured<3>>,
     one_requests: [Measured<3>; 4],
     one_judges: [Measured<2>; 3],
     loads: Measured<2>,
+    plans: [Measured<2>; 6],
 }
 
 impl Figures {
@@ -251,18 +270,27 @@ impl Figures {
             one_requests: [15, 1, 4, 0].map(|mask| Measured::of(&ONE_REQUEST, mask)),
             one_judges: [15, 1, 4].map(|mask| Measured::of(&ONE_JUDGE, mask)),
             loads: Measured::of(&ONE_REQUEST, MASKS[0]),
+            plans: LISTS
+                .each_ref()
+                .map(|list| Measured::of(&list.workload, list.mask)),
         }
     }
 
     fn pass(&mut self) {
         let mut ground = Ground::new();
         for row in self.runs.iter_mut().chain(&mut self.one_requests) {
-            row.pass(&mut ground, all_runs);
+            row.pass(&mut ground, inputs(row.workload, row.mask), all_runs);
         }
-        for row in &mut self.one_judges {
-            row.pass(&mut ground, all_judges);
+        for row in self.one_judges.iter_mut() {
+            row.pass(&mut ground, inputs(row.workload, row.mask), all_judges);
         }
-        self.loads.pass(&mut ground, all_loads);
+        let loads = inputs(self.loads.workload, self.loads.mask);
+        self.loads.pass(&mut ground, loads, all_loads);
+        for (row, list) in self.plans.iter_mut().zip(&LISTS) {
+            row.pass(&mut ground, list.inputs(), |_, input, _| {
+                list.all_plans(input)
+            });
+        }
     }
 
     fn read(&mut self, text: &str) {
@@ -274,6 +302,9 @@ impl Figures {
             row.read(&mut lines);
         }
         self.loads.read(&mut lines);
+        for row in &mut self.plans {
+            row.read(&mut lines);
+        }
     }
 
     /// Prints the table and the bars: whether all hold.
@@ -288,6 +319,11 @@ impl Figures {
         let [proved, plain] = self.loads.sums().map(|sum| sum / loads as f64);
         let load = proved / plain;
         println!("\nload of a full book: proved {proved:.1} ns, plain Rust {plain:.1} ns, ratio {load:.2}\n");
+        println!("{PLANS_HEADING}");
+        for row in &self.plans {
+            row.print_plan();
+        }
+        println!();
         bars::hold(&runs, &one_requests, load)
     }
 }

@@ -14,9 +14,12 @@ mod keeping;
 #[path = "../../benches/benchmark/kinds.rs"]
 mod kinds;
 mod lent;
+mod mistakes;
 mod monitor;
 mod mutant;
 mod plain;
+#[path = "../../benches/benchmark/planning.rs"]
+mod planning;
 mod requests;
 mod scene;
 mod seen;
@@ -25,13 +28,17 @@ mod shared;
 #[path = "../../benches/benchmark/tables.rs"]
 mod tables;
 
+use mistakes::{Mistake, Mistaken};
 use monitor::Proved;
 use mutant::{Mutant, Mutation};
 use reference::{marked, Buffers};
-use seen::{Seen, ANSWER, NUMBERS};
+use seen::{Plans, Seen, ANSWER, NUMBERS};
 
 /// The calls that the main test compares at least.
 const CALLS: usize = 100_000;
+
+/// The plans that the test of plans looks at at least.
+const PLANS: usize = 20_000;
 
 #[test]
 fn answers_agree() {
@@ -62,6 +69,54 @@ fn expect_both_refusals(seen: &Seen) {
         println!("{call}: 15 was given {rank} times, and 21 {compartment} times");
         assert!(rank >= 500 && compartment >= 500);
         assert!(2 * rank >= compartment && 2 * compartment >= rank);
+    }
+}
+
+/// Every plan is right by the reference: an order is granted throughout, and 23
+/// comes after a list from blank only where there is no order.
+#[test]
+fn plans_are_right() {
+    let (mut plans, mut seed) = (0, 0);
+    let mut seen = Seen::default();
+    while plans < PLANS {
+        plans += scene::play_plans(&Proved, seed, &mut seen).unwrap_or_else(|it| panic!("{it}"));
+        seed += 1;
+    }
+    let numbers = seen.calls["plan"];
+    println!(
+        "{plans} plans in {seed} scenes are right; each number was given so often: {numbers:?}"
+    );
+    let Plans {
+        after_lists,
+        elsewhere,
+        with_step,
+        not_their_own,
+        long,
+    } = seen.plans;
+    println!(
+        "without and with an order: {after_lists:?} after lists, {elsewhere:?} elsewhere; {with_step} \
+         with a step; {not_their_own} with an order but not their own, {long} with more than six jobs"
+    );
+    let (with_order, asked) = (numbers[0], numbers[0] + numbers[23]);
+    assert!(3 * with_order >= plans && 2 * with_step >= asked && 5 * not_their_own >= with_order);
+    assert!(long >= 300 && numbers[18] >= 500 && numbers[22] >= 500);
+    assert!(after_lists
+        .iter()
+        .chain(&elsewhere)
+        .all(|count| *count >= 1_000));
+}
+
+/// A monitor that plans wrongly in one place only is found.
+#[test]
+fn each_mistake_of_plans_is_found() {
+    for mistake in Mistake::all() {
+        let mistaken = Mistaken { mistake };
+        let found = (0..1_000)
+            .find_map(|seed| scene::play_plans(&mistaken, seed, &mut Seen::default()).err());
+        match found {
+            Some(text) => println!("{mistake:?}: {text}"),
+            None => panic!("{mistake:?} was not found"),
+        }
     }
 }
 
@@ -143,6 +198,35 @@ fn rank_or_compartment() {
         let given = kweldabe::put(book, &mut history, &mut levels, record);
         assert_eq!(given, number);
         assert!(lent == Buffers { history, levels });
+    }
+}
+
+/// The jobs of the worked case, and whatever the number, nothing else is written.
+#[test]
+fn jobs_in_their_only_order() {
+    let book = &marked::ORDER_BOOK;
+    let blank = Buffers::blank(&reference::load(book).tables);
+    let jobs = marked::ORDER_JOBS.chunks(4).map(|it| kweldabe::Job {
+        action: it[0],
+        person: it[1],
+        target: it[2],
+        step: it[3],
+    });
+    let jobs: Vec<kweldabe::Job> = jobs.collect();
+    let plan = |jobs: &[kweldabe::Job]| kweldabe::plan(book, &blank.history, &blank.levels, jobs);
+    let found = plan(&jobs);
+    assert_eq!(
+        (found.number, &found.positions[..4]),
+        (0, &marked::ORDER[..])
+    );
+    assert_eq!(found.positions[4..], [0; 60]);
+    let start = kweldabe::Job {
+        action: 18,
+        ..jobs[0]
+    };
+    for (jobs, number) in [(&jobs[..1], 23), (&[jobs[2], start], 22), (&[], 0)] {
+        let positions = [0; 64];
+        assert_eq!(plan(jobs), kweldabe::Plan { number, positions });
     }
 }
 

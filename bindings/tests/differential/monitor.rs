@@ -1,5 +1,6 @@
 //! The monitor under test. Each call that is lent levels gets them as bytes that
-//! can be written: that judge and standing write none is tested.
+//! can be written: that judge and standing write none is tested, and that plan
+//! writes neither history nor levels.
 
 use kweldabe::{Loaded, Ran, Standing};
 
@@ -37,6 +38,16 @@ pub trait Monitor {
 
     fn standing(&self, book: &[u8], history: &[u8], levels: &mut [u8], person: u8) -> Standing {
         kweldabe::standing(book, history, levels, person)
+    }
+
+    fn plan(
+        &self,
+        book: &[u8],
+        (history, levels): (&mut [u8], &mut [u8]),
+        jobs: &[u8],
+        positions: &mut [u8],
+    ) -> u8 {
+        kweldabe::plan_bytes(book, history, levels, jobs, positions)
     }
 }
 

@@ -1,10 +1,11 @@
-//! The plain Rust of the benchmark against the reference: both runs, and the
-//! request judged alone. The benchmark's own books declare everything and have no
-//! public folder, and its requests are whole.
+//! The plain Rust of the benchmark against the reference: both runs, the request
+//! judged alone, and the planner. The benchmark's own books declare everything and
+//! have no public folder, and its requests are whole.
 
+use crate::monitor::Monitor;
 use crate::requests::Parties;
 use crate::seen::{Seen, ANSWER};
-use crate::{alone, baseline, books, keeping};
+use crate::{alone, baseline, books, keeping, planning, scene};
 use reference::random::Random;
 use reference::{Buffers, Loaded, Tables};
 
@@ -117,4 +118,29 @@ fn a_request_judged_alone_agrees() {
             rest = rest.get(3..).unwrap_or(&[]);
         }
     }
+}
+
+/// The planner of plain Rust in the place of the proved one.
+struct Planning;
+
+impl Monitor for Planning {
+    fn plan(
+        &self,
+        book: &[u8],
+        (history, levels): (&mut [u8], &mut [u8]),
+        jobs: &[u8],
+        positions: &mut [u8],
+    ) -> u8 {
+        planning::plan(book, history, levels, jobs, positions)
+    }
+}
+
+#[test]
+fn the_plans_are_right() {
+    let mut plans = 0;
+    for seed in 1_000..1_100 {
+        plans += scene::play_plans(&Planning, seed, &mut Seen::default())
+            .unwrap_or_else(|found| panic!("{found}"));
+    }
+    assert!(plans >= 4_000);
 }

@@ -1,13 +1,20 @@
 //! Random request records: mostly whole, of declared parties.
 
 use reference::random::Random;
-use reference::Tables;
+use reference::rules::steps_done;
+use reference::{Request, State, Tables};
 
 /// The kinds of requests, each as often as it comes up.
 const KINDS: &[u8] = &[16, 16, 16, 17, 17, 18, 19, 19, 19, 19];
 
 /// Without reads steps alone lower.
 const NO_READS: &[u8] = &[17, 17, 17, 18, 19, 19, 19, 19, 19, 19];
+
+/// The kinds of jobs of which a plan is wanted.
+const JOBS: &[u8] = &[16, 17, 19, 19, 19, 19];
+
+/// Parties for jobs, and the tables and the state by which a step is chosen.
+pub type Busy<'a> = (&'a Parties, &'a Tables, &'a State);
 
 pub struct Parties {
     persons: Vec<u8>,
@@ -53,6 +60,46 @@ impl Parties {
         requests
     }
 
+    /// Few of the parties, with so many folders if there are as many.
+    pub fn busy(&self, random: &mut Random, folders: usize) -> Parties {
+        let mut few = |numbers: &[u8], count: usize| {
+            let mut numbers = numbers.to_vec();
+            random.shuffle(&mut numbers);
+            numbers.truncate(count);
+            numbers
+        };
+        Parties {
+            persons: few(&self.persons, 1 + folders / 2),
+            folders: few(&self.folders, folders),
+            kinds: self.kinds,
+        }
+    }
+
+    /// A read, a write or a step. With busy parties it is mostly of these, and a
+    /// step is mostly one that a step done there enables.
+    pub fn job(&self, random: &mut Random, busy: Option<Busy>) -> Request {
+        let parties = match busy {
+            Some((few, ..)) if random.chance(85) => few,
+            _ => self,
+        };
+        let person = some_of(random, &parties.persons);
+        let folder = some_of(random, &parties.folders);
+        match (random.pick(JOBS), busy) {
+            (16, _) => Request::Read { person, folder },
+            (17, _) => Request::Write { person, folder },
+            (_, busy) => Request::Step {
+                person,
+                step: match busy {
+                    Some((_, tables, state)) if random.chance(90) => {
+                        next_step(random, tables, state, folder)
+                    }
+                    _ => some_step(random),
+                },
+                folder,
+            },
+        }
+    }
+
     fn record(&self, random: &mut Random) -> Vec<u8> {
         let person = self.person(random);
         let folder = mostly_of(random, &self.folders);
@@ -68,6 +115,28 @@ impl Parties {
 fn some_step(random: &mut Random) -> u8 {
     let limit = random.pick(&[1, 3, 17, 17]);
     random.below(limit) as u8
+}
+
+/// A step that some step done on the folder enables; create if none was done.
+fn next_step(random: &mut Random, tables: &Tables, state: &State, folder: u8) -> u8 {
+    let done: Vec<usize> = steps_done(tables, &state.history, folder)
+        .into_iter()
+        .collect();
+    if done.is_empty() {
+        return 0;
+    }
+    let enabled = tables.enables[random.pick(&done)];
+    let first = random.below(16);
+    let next = (first..first + 16).find(|step| enabled[step % 16]);
+    (next.unwrap_or(first) % 16) as u8
+}
+
+/// One of these, or any number if there are none.
+fn some_of(random: &mut Random, declared: &[u8]) -> u8 {
+    match declared {
+        [] => random.byte(),
+        _ => random.pick(declared),
+    }
 }
 
 fn mostly_of(random: &mut Random, declared: &[u8]) -> u8 {

@@ -1,5 +1,9 @@
 //! A scene: one book, one history with levels, and calls on both monitors.
 
+mod plans;
+
+pub use plans::play_plans;
+
 use crate::books::{good_book, some_bit, some_book};
 use crate::lent::Lent;
 use crate::monitor::Monitor;
@@ -63,6 +67,8 @@ struct Scene<'a, M: Monitor> {
     levels: Vec<u8>,
     /// In so many of a hundred calls the levels have another length.
     wrong_levels: usize,
+    /// Whether some list put from blank leaves both.
+    left_by_a_list: bool,
     calls: usize,
 }
 
@@ -116,6 +122,7 @@ impl<'a, M: Monitor> Scene<'a, M> {
             history: Vec::new(),
             levels: Vec::new(),
             wrong_levels: 0,
+            left_by_a_list: false,
             calls: 0,
         }
     }
@@ -126,11 +133,19 @@ impl<'a, M: Monitor> Scene<'a, M> {
         let dense = self.random.chance(1);
         self.history = self.first_history(dense);
         self.levels = self.first_levels();
+        self.left_by_a_list = Buffers::blank(&self.loaded.tables) == self.both();
         let calls = if dense { DENSE_CALLS } else { CALLS };
         for _ in 0..calls {
             self.some_call()?;
         }
         Ok(())
+    }
+
+    fn both(&self) -> Buffers {
+        Buffers {
+            history: self.history.clone(),
+            levels: self.levels.clone(),
+        }
     }
 
     fn first_history(&mut self, dense: bool) -> Vec<u8> {
@@ -193,16 +208,15 @@ impl<'a, M: Monitor> Scene<'a, M> {
     /// Now and then somebody else stores a level.
     fn some_call(&mut self) -> Result<(), String> {
         if self.random.chance(1) {
-            let at = 2 * usize::from(self.parties.person(&mut self.random) % 64);
-            let bit = some_bit(&mut self.random);
-            self.levels[at + bit / 8] ^= 1 << (bit % 8);
+            self.store_a_level();
         }
         match self.random.below(100) {
             0..=1 => self.blank(),
-            2..=30 => self.judge(),
-            31..=70 => self.put(),
-            71..=85 => self.run(),
-            _ => self.standing(),
+            2..=28 => self.judge(),
+            29..=65 => self.put(),
+            66..=78 => self.run(),
+            79..=90 => self.standing(),
+            _ => self.plan(),
         }
     }
 
@@ -224,9 +238,10 @@ impl<'a, M: Monitor> Scene<'a, M> {
     }
 
     fn some_buffers(&mut self) -> Buffers {
+        let Buffers { history, levels } = self.both();
         Buffers {
-            history: self.some_lent(self.history.clone(), 4),
-            levels: self.some_lent(self.levels.clone(), self.wrong_levels),
+            history: self.some_lent(history, 4),
+            levels: self.some_lent(levels, self.wrong_levels),
         }
     }
 
@@ -270,6 +285,7 @@ impl<'a, M: Monitor> Scene<'a, M> {
         let given = self.monitor.blank(self.book.bytes(), history, levels);
         same("blank", given, number)?;
         ours.kept("blank", &theirs)?;
+        self.left_by_a_list |= number == 0;
         self.keep(theirs);
         self.ended("blank", number)
     }

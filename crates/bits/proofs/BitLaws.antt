@@ -180,13 +180,17 @@ pub masked-bit : (v n k : ℕ) → eqb (bitAnd (n / 2 ^ bitAnd k (2 ^ v - 1)) 1)
 unfolding bit
 masked-bit v n k = rw (and-mask k v) (ap (λ (x : ℕ). eqb x 1) (and-mask (n / 2 ^ (k % 2 ^ v)) 1))
 
+-- `1 << (k & mask)`
+pub masked-pow : (v k : ℕ) → (1 * 2 ^ bitAnd k (2 ^ v - 1)) % 2 ^ 2 ^ v ≡ 2 ^ (k % 2 ^ v)
+masked-pow v k =
+    rw (and-mask k v)
+    (shl-exact 1 (k % 2 ^ v) (2 ^ v) (lit< tt) (let l = mod-lt k (pow-pos v) in omega arith) ∙ one-mul (2 ^ (k % 2 ^ v)))
+
 -- `n | (1 << (k & mask))`
 pub with-masked-bit : (v n k : ℕ) → bitOr n ((1 * 2 ^ bitAnd k (2 ^ v - 1)) % 2 ^ 2 ^ v) ≡ withBit n (k % 2 ^ v)
 unfolding withBit
 with-masked-bit v n k =
-    rw (and-mask k v)
-    (ap (bitOr n)
-    (shl-exact 1 (k % 2 ^ v) (2 ^ v) (lit< tt) (let l = mod-lt k (pow-pos v) in omega arith) ∙ one-mul (2 ^ (k % 2 ^ v))))
+    ap (bitOr n) (masked-pow v k)
 
 -- `n | (x << (k & mask))`, where x is 1 for a test that holds, and 0 otherwise
 pub with-masked-bit-if : (v n k x : ℕ) (add : Bool) → x ≡ cond add 1 0

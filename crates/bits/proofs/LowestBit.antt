@@ -72,7 +72,8 @@ trailing-lowest (suc w) n =
 
 -- ---- a number without a bit
 
-set-le : (n k : ℕ) → bit n k ≡ true → 2 ^ k ≤ n
+-- the power of a bit that is set is at most the number
+pub set-le : (n k : ℕ) → bit n k ≡ true → 2 ^ k ≤ n
 set-le n k e =
     ⊎-elim (λ t. leb-true (2 ^ k) n t) (λ f. absurd (false-elim (bit n k) (bit-high k n k (leb-false (2 ^ k) n f) (omega arith)) e))
     (decide (leb (2 ^ k) n))

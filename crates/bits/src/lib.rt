@@ -82,6 +82,16 @@ pub fn word16(n: u16) -> u64
     n as u64
 }
 
+// n with bit k cleared.
+pub fn without_bit64(n: u64, k: usize) -> u64
+    ensures { λ r. ⌜ r ≡ withoutBit n (k % 64) ⌝ }
+{
+    if bit64(n, k) {
+        return n - (1 << (k & 63));
+    }
+    n
+}
+
 // How many bits of n are set.
 pub fn count64(n: u64) -> u32
     ensures { λ r. ⌜ r ≡ countBelow 64 (bit n) ⌝ }

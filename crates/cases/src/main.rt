@@ -1,12 +1,13 @@
 // The program `cases`: plays a file of calls from standard input on the monitor, and prints a line for each call on standard output.
 // The format of the file and of the lines is that of reference/FORMAT.md; nothing is judged here. Of a longer input it takes the first
-// 393,216 bytes.
+// 458,752 bytes.
 use libc::STDIN_FILENO;
 use policy::Tables;
 
 mod digest;
 mod fields;
 mod line;
+mod plans;
 mod reading;
 
 // The bytes of the history buffer.
@@ -95,6 +96,25 @@ fn play_standing(t: Tables, s: &[u8], h: &[u8], l: &[u8]) {
     line::print(b"standing", &numbers);
 }
 
+// Plans jobs, puts them in the order handed back, and prints the plan's line.
+fn play_plan(t: Tables, s: &[u8], h: &mut [u8], l: &mut [u8]) {
+    let front = reading::front(reading::pair(s, 1), h);
+    let held = reading::front(bits::wide(reading::byte(s, 3)), l);
+    let jobs = reading::after(s, 6);
+    let plan = monitor::plan_bytes(t, &h[..front], &l[..held], jobs);
+    let positions = plan.positions;
+    let n = plans::placed(plan.number, jobs.len() / 4);
+    let granted = plans::put_jobs(t, &mut h[..front], &mut l[..held], jobs, &positions, n);
+    let numbers = [
+        plan.number as u64,
+        granted,
+        plans::left_over(&positions, n),
+        digest::of_bytes(h),
+        digest::of_bytes(l),
+    ];
+    line::print(b"plan", &numbers);
+}
+
 // Sets one byte of the history buffer.
 fn play_byte(s: &[u8], h: &mut [u8]) {
     let at = reading::pair(s, 1) % HISTORY;
@@ -131,6 +151,7 @@ fn play_call(t: Tables, s: &[u8], h: &mut [u8], l: &mut [u8], answers: &mut [u8]
         8 => play_byte(s, h),
         9 => play_fill(reading::byte(s, 1), answers),
         10 => play_level_byte(s, l),
+        11 => play_plan(t, s, h, l),
         _ => (),
     }
 }
@@ -171,7 +192,7 @@ fn play_all(calls: &[u8], h: &mut [u8], l: &mut [u8], answers: &mut [u8]) {
 }
 
 fn main() {
-    let mut calls = [0u8; 393216];
+    let mut calls = [0u8; 458752];
     let mut history = [0u8; HISTORY];
     let mut levels = [0u8; LEVELS];
     let mut answers = [0u8; 4096];

@@ -4,7 +4,7 @@ ghost use lib.ListN.{length};
 ghost use Rattle.io.specs.Counts.{Counts};
 
 // The smaller of two numbers.
-fn least(a: usize, b: usize) -> usize
+pub fn least(a: usize, b: usize) -> usize
     ensures { λ r. ⌜ r ≤ a ⌝ }
     ensures { λ r. ⌜ r ≤ b ⌝ }
 {
@@ -62,6 +62,7 @@ fn needed(s: &[u8]) -> usize {
         8 => 4,
         9 => 2,
         10 => 3,
+        11 => 6 + pair(s, 4),
         _ => 0,
     }
 }

@@ -3,12 +3,29 @@
 use Prim.Native.Nat.{ℕ, _+_, _*_, _%_}
 use mathlib.Core.Path.{_≡_}
 use mathlib.Core.Bool.{cond}
-use mathlib.Core.List.{List}
-use lib.Dec.{eqb}
+use mathlib.Core.Logic.{_≢_}
+use mathlib.Core.List.{List, [], _∷_, _++_}
+use lib.Dec.{eqb, leb}
+use lib.ListN.{length, drop}
+use Rattle.policy.specs.declared.Job.{Job}
 use Rattle.policy.specs.declared.Loaded.{Loaded}
+use Rattle.policy.specs.declared.Plan.{Plan}
 use Rattle.policy.specs.declared.Ran.{Ran}
 use Rattle.policy.specs.declared.Standing.{Standing}
-use Rattle.policy.specs.Calls.{State, blankNumber, blankState, judgeNumber, putState, ran, runState, runAnswers, standing}
+use Rattle.policy.specs.Checks.{_else_, ladder}
+use Rattle.policy.specs.Calls.{
+  State,
+  callChecks,
+  blankNumber,
+  blankState,
+  judgeNumber,
+  putState,
+  ran,
+  runState,
+  runAnswers,
+  standing,
+}
+use Rattle.policy.specs.Plans.{IsPlan}
 use Rattle.loaded.specs.Refused.{noRun, noStanding}
 
 -- number in bits 0 to 7, offset modulo 2^56 in bits 8 to 63
@@ -61,3 +78,17 @@ standingPacked s = packedStanding (s .number) (s .level .0) (s .rights) (s .firm
 
 unfoldable pub standingBy : Loaded → State → ℕ → Standing
 standingBy l a person = cond (eqb (l .number) 0) (standing (l .tables) a person) (noStanding (l .number))
+
+-- the number of a plan's checks before its own: of a refused book, of the lengths, and 18 where fewer than 64 positions are lent
+unfoldable pub roomBy : Loaded → State → List ℕ → ℕ
+roomBy l a lent =
+    cond (eqb (l .number) 0) (ladder (callChecks (l .tables) a ++ (leb 64 (length lent) else 18) ∷ [])) (l .number)
+
+-- the positions afterwards: the first 64 are those of a plan with the number 0, and otherwise nothing changes
+unfoldable pub positionsBy : Plan → List ℕ → List ℕ
+positionsBy p lent = cond (eqb (p .number) 0) (p .positions ++ drop 64 lent) lent
+
+-- what a plan by a book returns, and the positions afterwards
+pub record PlanBy (l : Loaded) (a : State) (jobs : List Job) (lent : List ℕ) (r : ℕ) (written : List ℕ) : Type 0 where
+  pub refused : roomBy l a lent ≢ 0 → (r ≡ roomBy l a lent) × (written ≡ lent)
+  pub planned : roomBy l a lent ≡ 0 → (p : Plan) × IsPlan (l .tables) a jobs p × (r ≡ p .number) × (written ≡ positionsBy p lent)

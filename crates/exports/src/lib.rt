@@ -1,9 +1,12 @@
 // The calls of the access monitor for programs in C and Rust: byte slices and numbers only. Tables do not cross this boundary; a call
 // that needs them takes the bytes of the rulebook and loads it. A refused book is answered with its number, and then nothing changes.
 ghost use mathlib.Core.Path.{_≡_};
-ghost use lib.ListN.{length};
+ghost use mathlib.Core.List.{_++_};
+ghost use Prim.Native.Nat.{_≤_};
+ghost use lib.ListN.{length, drop};
 ghost use Rattle.policy.specs.Rulebook.{loadBook};
 ghost use Rattle.policy.specs.Calls.{state, restOf};
+ghost use Rattle.policy.specs.Plans.{jobsOf};
 ghost use Rattle.exports.specs.Packed.{
   packedLoad,
   packedRun,
@@ -16,6 +19,7 @@ ghost use Rattle.exports.specs.Packed.{
   RunBy,
   standingPacked,
   standingBy,
+  PlanBy,
 };
 use policy::numbers;
 
@@ -151,4 +155,48 @@ pub extern "C" fn kweldabe_standing(book: &[u8], history: &[u8], levels: &[u8], 
     let found = loaded::standing(given.tables, history, levels, person);
     let level = found.level;
     pack_standing(found.number, level.0, found.rights, found.firms)
+}
+
+// Writes the positions of a plan over the first 64 bytes.
+fn put_positions(found: &[u8; 64], positions: &mut [u8])
+    requires { ⌜ (length (now found) ≡ 64) × (64 ≤ length (now positions)) ⌝ }
+    ensures { λ r. ⌜ now (positions .exit) ≡ now (found .entry) ++ drop 64 (now (positions .entry)) ⌝ }
+{
+    for k in 0..64 {
+        positions[k] = found[k];
+    }
+}
+
+// An order of the jobs in which all are granted, four bytes for each job: 0 and its positions, or a number with which no byte changes.
+#[no_mangle]
+pub extern "C" fn kweldabe_plan(
+    book: &[u8],
+    history: &[u8],
+    levels: &[u8],
+    jobs: &[u8],
+    positions: &mut [u8],
+) -> u8
+    ensures { λ r. ⌜
+        PlanBy (loadBook (now (book .entry))) (state (now (history .entry)) (now (levels .entry))) (jobsOf (now (jobs .entry)))
+        (now (positions .entry)) r (now (positions .exit))
+        ⌝ }
+{
+    let given = monitor::load(book);
+    if given.number != numbers::GRANTED {
+        return given.number;
+    }
+    let number = loaded::lengths(history, levels);
+    if number != numbers::GRANTED {
+        return number;
+    }
+    if positions.len() < 64 {
+        return numbers::TOO_FEW_ANSWERS;
+    }
+    let plan = planning::plan(given.tables, history, levels, jobs);
+    if plan.number != numbers::GRANTED {
+        return plan.number;
+    }
+    let found = plan.positions;
+    put_positions(&found, positions);
+    numbers::GRANTED
 }

@@ -23,14 +23,14 @@ pub same-person : (t : Tables) (n : ℕ) → ltb n 64 && personAt t (n % 64) .de
 unfolding personDeclared
 same-person t n = at-rest n 64 (λ i. personAt t i .declared) (λ l. omega arith)
 
-module _ (t : Tables) (r : Parsed) {s o : ℕ} (person : s ≡ r .person) (target : o ≡ r .target) where
-  same-folder : ltb o 128 && folderAt t (o % 128) .declared ≡ folderDeclared t o
-  unfolding folderDeclared
-  same-folder = at-rest o 128 (λ i. folderAt t i .declared) (λ l. omega arith)
+pub same-folder : (t : Tables) (n : ℕ) → ltb n 128 && folderAt t (n % 128) .declared ≡ folderDeclared t n
+unfolding folderDeclared
+same-folder t n = at-rest n 128 (λ i. folderAt t i .declared) (λ l. omega arith)
 
+module _ (t : Tables) (r : Parsed) {s o : ℕ} (person : s ≡ r .person) (target : o ≡ r .target) where
   known-is : (ltb s 64 && personAt t (s % 64) .declared) && (ltb o 128 && folderAt t (o % 128) .declared)
       ≡ personDeclared t (r .person) && folderDeclared t (r .target)
-  known-is = ap₂ _&&_ (same-person t s ∙ ap (personDeclared t) person) (same-folder ∙ ap (folderDeclared t) target)
+  known-is = ap₂ _&&_ (same-person t s ∙ ap (personDeclared t) person) (same-folder t o ∙ ap (folderDeclared t) target)
 
   pub asked-in-range : InRange (askedOf s o (personAt t (s % 64)) (personAt t (o % 64)) (folderAt t (o % 128))) r
   unfolding askedOf

@@ -16,7 +16,7 @@ use running::alone;
 const FEW: usize = 8;
 
 // The checks on the lengths of a history and of levels: 0 where they pass.
-fn lengths(h: &[u8], levels: &[u8]) -> u8
+pub fn lengths(h: &[u8], levels: &[u8]) -> u8
     ensures { λ r. ⌜ Lengths (state (now (h .entry)) (now (levels .entry))) r ⌝ }
 {
     if h.len() != history::BYTES {

@@ -13,8 +13,13 @@ ghost use Rattle.policy.specs.Calls.{
   putState,
   standing as standingOf,
 };
+ghost use Rattle.policy.specs.Plans.{jobsOf, IsPlan};
+ghost use Rattle.jobs.specs.Packing.{jobsIn};
 ghost use Rattle.loaded.specs.Refused.{RunIs};
+use jobs::Packed;
+use policy::Job;
 use policy::Loaded;
+use policy::Plan;
 use policy::Ran;
 use policy::Standing;
 use policy::Tables;
@@ -112,4 +117,34 @@ pub fn standing(t: Tables, h: &[u8], levels: &[u8], person: u8) -> Standing
         return loaded::no_standing(number);
     }
     loaded::standing(t, h, levels, person)
+}
+
+// An order of the jobs in which all are granted (document 02, Point 6). The list is lent as bytes, four for each job.
+pub fn plan_bytes(t: Tables, h: &[u8], levels: &[u8], jobs: &[u8]) -> Plan
+    ensures { λ r. ⌜ IsPlan t (state (now (h .entry)) (now (levels .entry))) (jobsOf (now (jobs .entry))) r ⌝ }
+{
+    let number = checked(t, h, levels);
+    if number != numbers::GRANTED {
+        return planning::no_plan(number);
+    }
+    planning::plan(t, h, levels, jobs)
+}
+
+// An order of the packed jobs: of the bytes of each job of a list shorter than 65, and else of all.
+fn plan_packed(t: Tables, h: &[u8], levels: &[u8], p: Packed) -> Plan
+    ensures { λ r. ⌜ IsPlan t (state (now (h .entry)) (now (levels .entry))) (jobsIn p) r ⌝ }
+{
+    let bytes = p.bytes;
+    let len = p.len;
+    if len < 65 {
+        return plan_bytes(t, h, levels, &bytes[..4 * len]);
+    }
+    plan_bytes(t, h, levels, &bytes)
+}
+
+// An order of the jobs in which all are granted (document 02, Point 6). The list is lent as records.
+pub fn plan(t: Tables, h: &[u8], levels: &[u8], jobs: &[Job]) -> Plan
+    ensures { λ r. ⌜ IsPlan t (state (now (h .entry)) (now (levels .entry))) (now (jobs .entry)) r ⌝ }
+{
+    plan_packed(t, h, levels, jobs::pack(jobs))
 }

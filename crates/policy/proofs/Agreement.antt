@@ -4,7 +4,7 @@
 use Prim.Native.Nat.{ℕ}
 use native.Mathlib.Nat.{ℕ-set}
 use mathlib.Core.Path.{_≡_, refl, sym, ap, _∙_}
-use mathlib.Core.Logic.{⊎-elim, ∥∥₁-elim}
+use mathlib.Core.Logic.{∥∥₁-elim}
 use mathlib.Core.Bool.{Bool, true, false, cond}
 use mathlib.Core.List.{
   List,
@@ -13,15 +13,6 @@ use mathlib.Core.List.{
   reverse,
   reverseAux,
   Perm,
-  List·Permᴰ,
-  List·Permᴰ·nil,
-  List·Permᴰ·cons,
-  List·Permᴰ·swap,
-  List·Permᴰ·trans,
-  List·Memᴰ,
-  List·Memᴰ·head,
-  List·Memᴰ·tail,
-  List·Memᴰ·cases-cons,
 }
 use lib.Dec.{eqb}
 use Rattle.bits.proofs.Booleans.{false-elim, false-intro}
@@ -47,6 +38,7 @@ use Rattle.policy.proofs.Histories.{
   same-future,
   levels-stand,
 }
+use Rattle.policy.proofs.Permuted.{permuted-in}
 use Rattle.policy.proofs.Fronts.{is-person}
 use Rattle.policy.proofs.GivenEntries.{undeclared-person}
 use Rattle.policy.proofs.Published.{level-is-meet}
@@ -77,17 +69,6 @@ steps-reversed o (step s p f ∷ l) g = steps-reversed o l (step s p f ∷ g) �
 
 -- ---- reorderings
 
--- a reordering has the same calls
-perm-in : {A : Type 0} {l m : List A} → List·Permᴰ l m → (x : A) → List·Memᴰ x m → List·Memᴰ x l
-perm-in List·Permᴰ·nil x h = h
-perm-in (List·Permᴰ·cons e d) x h =
-    ⊎-elim (λ i. List·Memᴰ·head (i ∙ sym e)) (λ k. List·Memᴰ·tail (perm-in d x k)) (List·Memᴰ·cases-cons h)
-perm-in (List·Permᴰ·swap e f) x h =
-    ⊎-elim (λ i. List·Memᴰ·tail (List·Memᴰ·head (i ∙ sym f)))
-    (λ k. ⊎-elim (λ i. List·Memᴰ·head (i ∙ sym e)) (λ j. List·Memᴰ·tail (List·Memᴰ·tail j)) (List·Memᴰ·cases-cons k))
-    (List·Memᴰ·cases-cons h)
-perm-in (List·Permᴰ·trans d d′) x h = perm-in d x (perm-in d′ x h)
-
 module _ (t : Tables) (ok : given t ≡ true) (a b : State) (blank : FromBlank t a) (blank′ : FromBlank t b) (xs ys : List (List ℕ)) where
   steps-in-order : inForce t pipelineRule ≡ true → ((p : ℕ) → Way (Enables t) p p → ⊥) → SameSet (granted t a xs) (granted t b ys)
       → (o : ℕ) → stepsOn o (granted t a xs) ≡ stepsOn o (granted t b ys)
@@ -105,7 +86,7 @@ module _ (t : Tables) (ok : given t ≡ true) (a b : State) (blank : FromBlank t
   every-order low pipe perm zeros n m =
       ∥∥₁-elim perm (ℕ-set n 0) (λ d.
       granted-zeros t [] ys
-      (reordered t low pipe xs ys (perm-in d)
+      (reordered t low pipe xs ys (permuted-in d)
       (zeros-granted t [] xs (λ k i. zeros k (rw (numbers-over t ok a xs blank) i)))) n
       (rw (numbers-over t ok b ys blank′) at m))
 

@@ -3,7 +3,7 @@
 use Prim.Native.Nat.{ℕ}
 use mathlib.Core.Path.{_≡_, refl, sym, ap, _∙_}
 use mathlib.Core.Logic.{_⊎_, inl, inr, ⊎-elim, _↔_}
-use mathlib.Core.Bool.{Bool, true, false, not, Bool·beq, false≢true}
+use mathlib.Core.Bool.{Bool, true, false, not, _&&_, Bool·beq, false≢true}
 use mathlib.Core.List.{List, [], _∷_}
 use borrow.Author.Tests.{not-false}
 use Rattle.bits.specs.Bounded.{_implies_}
@@ -96,6 +96,11 @@ refuses-under {a} {b} v w = (
     both : (a b : Bool) → (a implies not b) ≡ false → (a ≡ true) × (b ≡ true)
     both true b f = (refl, not-false b f)
     both false b f = absurd (false≢true (sym f))
+
+-- two tests together refuse exactly where either does
+pub refuses-either : {a b : Bool} {A B : Type 0} → Refuses a A → Refuses b B → Refuses (a && b) (A ⊎ B)
+refuses-either {a = true} v w = (λ f. inr (w .0 f), ⊎-elim (λ h. absurd (false≢true (sym (v .1 h)))) (λ h. w .1 h))
+refuses-either {a = false} v w = (λ f. inl (v .0 refl), λ h. refl)
 
 -- causes have one answer
 pub answer-once : (causes : List Cause) {n m : ℕ} → Answer causes n → Answer causes m → n ≡ m

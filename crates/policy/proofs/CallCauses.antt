@@ -94,7 +94,7 @@ module _ (t : Tables) (typed : OfType t) (a : State) where
   given-exactly : (given t ≡ true) ↔ LoadGives t
   given-exactly = (λ e. gives t .0 (typed, e), λ w. gives t .1 w .1)
 
-  call-rows : {checks : List Check} {causes : List Cause} → Numbered checks causes
+  pub call-rows : {checks : List Check} {causes : List Cause} → Numbered checks causes
       → Numbered (callChecks t a ++ checks) (callCauses t a ++ causes)
   unfolding callChecks
   call-rows rest =

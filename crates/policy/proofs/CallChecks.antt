@@ -47,12 +47,20 @@ first-refusal true true false n k = refl
 first-refusal true false z n k = refl
 first-refusal false y z n k = refl
 
+-- a number that is neither one of the three nor that of the checks after them
+pub call-other : (x y z : Bool) (later n : ℕ) → later ≢ n → 10 ≢ n → 20 ≢ n → 11 ≢ n → callNumber x y z later ≢ n
+unfolding callNumber
+call-other true true true later n other ten twenty eleven = other
+call-other true true false later n other ten twenty eleven = eleven
+call-other true false z later n other ten twenty eleven = twenty
+call-other false y z later n other ten twenty eleven = ten
+
 module _ (t : Tables) (a : State) where
   pub calls-as : (rest : List Check) → ladder (callChecks t a ++ rest) ≡ callNumber (sizeRight a) (heldRight a) (given t) (ladder rest)
   unfolding callChecks ladder callNumber
   calls-as rest = refl
 
-  checks-as : ladder (callChecks t a) ≡ callNumber (sizeRight a) (heldRight a) (given t) 0
+  pub checks-as : ladder (callChecks t a) ≡ callNumber (sizeRight a) (heldRight a) (given t) 0
   unfolding callChecks ladder callNumber
   checks-as = refl
 

@@ -42,9 +42,7 @@ use Rattle.policy.proofs.Requests.{
   same-refl,
   member-none,
   member-more,
-  member-head,
-  member-tail,
-  member-cases,
+  added-one,
   member-in,
   in-member,
   person-below,
@@ -142,10 +140,6 @@ module _ (t : Tables) (ok : given t ≡ true) where
       judge-with t a bytes (record { size = s .sized .size; held = s .current .size; tables = ok })
       ∙ ap (λ (H : Request → Bool). judgeWith t H (levelAt (a .levels)) bytes) (fun-ext (s .holds))
       ∙ same-levels t (levelAt (a .levels)) (currentLevel t (member g)) (λ u d. stored-levels a g s u (person-below t u d)) (member g) bytes
-
-  -- the set with one request more
-  added-one : (r : Request) (g : List Request) (q : Request) → (member (r ∷ g) q ≡ true) ↔ ((q ≡ r) ⊎ (member g q ≡ true))
-  added-one r g q = (member-cases r q g, ⊎-elim (λ (e : q ≡ r). rw e (member-head r g)) (λ m. member-tail r q g m))
 
   pub stands-put : (a : State) (g : List Request) (bytes : List ℕ) → InStep t a g
       → InStep t (putState t a bytes) (addedIf (eqb (judgeOver t (member g) bytes) 0) (requestOf bytes) g)

@@ -52,5 +52,9 @@ pub mod Clearances
 pub mod StepsAlter
 pub mod Blanks
 pub mod SetPlaces
+pub mod Permuted
 pub mod Agreement
 pub mod Grants
+pub mod JobOrders
+pub mod JobRecords
+pub mod Planning

@@ -59,6 +59,13 @@ unfolding declared
 observer-declared t H s o w =
     ⊎-elim (λ h. and-left (personDeclared t s) _ (h .0)) (λ v. let (p, h) = v in declared-person t s p o (h .0)) w
 
+-- what a read or step of the set observes is observed
+pub observes-observed : (t : Tables) (H : Request → Bool) (q : Request) (s o : ℕ) → InHistory t H q → Observes q s o → Observed t H s o
+observes-observed t H (read s o) s′ o′ h w = rw (← w .0, ← w .1) (inl h)
+observes-observed t H (write s o) s′ o′ h w = absurd w
+observes-observed t H (start s u) s′ o′ h w = absurd w
+observes-observed t H (step s p o) s′ o′ h w = rw (← w .0, ← w .1) (inr (p, h))
+
 -- ---- one request more
 
 module _ (t : Tables) (H H′ : Request → Bool) (r : Request) (known : declared t r ≡ true)
@@ -70,12 +77,6 @@ module _ (t : Tables) (H H′ : Request → Bool) (r : Request) (known : declare
   kept : (q : Request) → InHistory t H q → InHistory t H′ q
   kept q h = (h .0, added q .1 (inr (h .1)))
 
-  observed-new : (q : Request) (s o : ℕ) → InHistory t H′ q → Observes q s o → Observed t H′ s o
-  observed-new (read s o) s′ o′ h w = rw (← w .0, ← w .1) (inl h)
-  observed-new (write s o) s′ o′ h w = absurd w
-  observed-new (start s u) s′ o′ h w = absurd w
-  observed-new (step s p o) s′ o′ h w = rw (← w .0, ← w .1) (inr (p, h))
-
   -- what was read or stepped on, with the new request
   pub observed-more : (s o : ℕ) → (Observed t H′ s o) ↔ (Observes r s o ⊎ Observed t H s o)
   observed-more s o = (
@@ -86,7 +87,7 @@ module _ (t : Tables) (H H′ : Request → Bool) (r : Request) (known : declare
         let (p, h) = v in
         ⊎-elim (λ (e : step s p o ≡ r). inl (rw (← e) (refl, refl))) (λ k. inr (inr (p, k))) (older (step s p o) h)) w,
     λ w.
-        ⊎-elim (λ v. observed-new r s o (known, added r .1 (inl refl)) v)
+        ⊎-elim (λ v. observes-observed t H′ r s o (known, added r .1 (inl refl)) v)
         (λ v. ⊎-elim (λ h. inl (kept (read s o) h)) (λ k. let (p, h) = k in inr (p, kept (step s p o) h)) v) w,
   )
 

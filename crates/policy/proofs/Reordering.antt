@@ -36,10 +36,21 @@ use Rattle.policy.specs.Tables.{
 use Rattle.policy.specs.Request.{Request, read, write, start, step, requestOf, member}
 use Rattle.policy.specs.Rules.{declared, counted}
 use Rattle.policy.specs.Calls.{judgeOver, judgeList}
-use Rattle.policy.specs.Published.{requester, rightOf, rivalsOf, NotPublic, Access, Accessed, WallAccess, Roles}
+use Rattle.policy.specs.Published.{
+  requester,
+  rightOf,
+  rivalsOf,
+  NotPublic,
+  Access,
+  Accessed,
+  WallAccess,
+  LowWater,
+  Roles,
+  Pipeline,
+}
 use Rattle.policy.proofs.Requests.{member-none, member-head, member-tail, member-cases}
 use Rattle.policy.proofs.Accesses.{counted-some, some-counted}
-use Rattle.policy.proofs.Published.{wall-published, roles-published}
+use Rattle.policy.proofs.Published.{wall-published, low-water-published, roles-published, pipeline-published}
 use Rattle.policy.proofs.Granted.{PassedOver, judge-passed, passed-judge, putOver, put-granted, grantedOver, judge-more}
 
 -- the folders' firms are one, or of different classes
@@ -66,8 +77,8 @@ Covers : Tables → (Request → Bool) → ℕ → ℕ → Type 0
 Covers t S s k = (q : Request) → S q ≡ true → requester q ≡ s → bit (roleAt t k .rights) (rightOf t q) ≡ true
 
 -- what holds of a set that was granted one request after another
-record Fair (t : Tables) (S : Request → Bool) : Type 0 where
-  known : (r : Request) → S r ≡ true → declared t r ≡ true
+pub record Fair (t : Tables) (S : Request → Bool) : Type 0 where
+  pub known : (r : Request) → S r ≡ true → declared t r ≡ true
   clean :
       inForce t wallRule ≡ true → (s o o′ : ℕ) → Accessed t S s o → NotPublic t o → Accessed t S s o′ → NotPublic t o′
       → Compatible t o o′
@@ -75,7 +86,7 @@ record Fair (t : Tables) (S : Request → Bool) : Type 0 where
       inForce t rolesRule ≡ true → (r : Request) → S r ≡ true
       → (k : ℕ) × (roleDeclared t k ≡ true) × Covers t S (requester r) k
 
-fair-none : (t : Tables) → Fair t (member [])
+pub fair-none : (t : Tables) → Fair t (member [])
 fair-none t =
     record {
       known = λ r h. absurd (false-elim (member [] r) (member-none r) h);
@@ -140,7 +151,7 @@ module _ (t : Tables) (g : List Request) (r : Request) (fair : Fair t (member g)
       ))
       (decide (eqb (requester q) (requester r)))
 
-  fair-more : Fair t (member (r ∷ g))
+  pub fair-more : Fair t (member (r ∷ g))
   fair-more = record { known = more-known; clean = more-clean; role = more-role }
 
 -- a request of a fair set passes after any part of the set
@@ -164,14 +175,16 @@ module _ (t : Tables) (S H : Request → Bool) (fair : Fair t S) (part : (q : Re
       let (k, d, c) = fair .role on r m in
       (k, d, λ q w. ⊎-elim (λ e. rw e (c r m refl)) (λ i. c q (part q (i .0 .1)) (i .1)) w)
 
-  fair-passed : inForce t lowWaterRule ≡ false → inForce t pipelineRule ≡ false → (r : Request) → S r ≡ true → PassedOver t H r
-  fair-passed low pipe r m =
+  -- where low-water and the pipeline permit it
+  pub fair-passed : (r : Request) → S r ≡ true → (inForce t lowWaterRule ≡ true → LowWater t H r)
+      → (inForce t pipelineRule ≡ true → Pipeline t H r) → PassedOver t H r
+  fair-passed r m low pipe =
       record {
         parties = fair .known r m;
         walled = implies-intro _ _ (λ on. wall-published t H r .1 (passes-wall on r m));
-        levelled = rw low refl;
+        levelled = implies-intro _ _ (λ on. low-water-published t H r .1 (low on));
         covered = implies-intro _ _ (λ on. roles-published t H r .1 (passes-roles on r m));
-        piped = rw pipe refl;
+        piped = implies-intro _ _ (λ on. pipeline-published t H r .1 (pipe on));
       }
 
 -- every call is granted over the set granted so far
@@ -233,7 +246,10 @@ module _ (t : Tables) where
     regranted g [] part each = tt
     regranted g (bytes ∷ calls) part each =
         let (r, d, m) = each bytes (List·Memᴰ·head refl) in
-        let z = passed-judge t (member g) bytes r d (fair-passed t S (member g) fair part low pipe r m) in
+        let passed =
+        fair-passed t S (member g) fair part r m (λ on. absurd (false-elim (inForce t lowWaterRule) low on))
+        (λ on. absurd (false-elim (inForce t pipelineRule) pipe on)) in
+        let z = passed-judge t (member g) bytes r d passed in
         let e = put-granted t g bytes r d z in (
           z,
           regranted (putOver t g bytes) calls

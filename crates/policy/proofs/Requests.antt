@@ -3,7 +3,7 @@
 use Prim.Native.Nat.{ℕ, _<_}
 use native.Mathlib.Omega.{arith}
 use mathlib.Core.Path.{_≡_, refl, sym, ap, ap₂}
-use mathlib.Core.Logic.{_⊎_, inl, inr, ⊎-elim}
+use mathlib.Core.Logic.{_⊎_, inl, inr, ⊎-elim, _↔_}
 use mathlib.Core.Bool.{Bool, true, false, _&&_, _||_, false≢true}
 use mathlib.Core.List.{
   List,
@@ -84,6 +84,10 @@ member-tail q r g h = or-right (same q r) (member g r) h
 pub member-cases : (q r : Request) (g : List Request) → member (q ∷ g) r ≡ true → (r ≡ q) ⊎ (member g r ≡ true)
 unfolding member
 member-cases q r g h = ⊎-elim (λ e. inl (sym (same-eq q r e))) (λ m. inr m) (or-cases (same q r) (member g r) h)
+
+-- the set with one request more
+pub added-one : (r : Request) (g : List Request) (q : Request) → (member (r ∷ g) q ≡ true) ↔ ((q ≡ r) ⊎ (member g q ≡ true))
+added-one r g q = (member-cases r q g, ⊎-elim (λ (e : q ≡ r). rw e (member-head r g)) (λ m. member-tail r q g m))
 
 pub member-in : (r : Request) (g : List Request) → member g r ≡ true → List·Memᴰ r g
 unfolding member

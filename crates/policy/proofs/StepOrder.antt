@@ -16,7 +16,7 @@ use mathlib.Core.List.{
   List·Memᴰ·cases-cons,
 }
 use lib.Dec.{eqb}
-use borrow.Author.Tests.{eqb-true, eqb-false}
+use borrow.Author.Tests.{eqb-true, eqb-false, eq-eqb}
 use Rattle.bits.proofs.Booleans.{implies-elim, false-elim}
 use Rattle.policy.specs.declared.Tables.{Tables}
 use Rattle.policy.specs.Tables.{enables, inForce, pipelineRule}
@@ -182,14 +182,21 @@ module _ (t : Tables) (g : List Request) (known : (r : Request) → member g r �
           absurd (none (z .number) (steps-applied o z (rw e m′)) (rw n at f)))
           (List·Memᴰ·cases-cons (rw e at m))
 
-record Lined (t : Tables) (g : List Request) : Type 0 where
+pub record Lined (t : Tables) (g : List Request) : Type 0 where
   known : (r : Request) → member g r ≡ true → declared t r ≡ true
   chain : (o : ℕ) → Chain t (stepsOn o g)
 
 module _ (t : Tables) (on : inForce t pipelineRule ≡ true) where
-  lined-none : Lined t []
+  pub lined-none : Lined t []
   unfolding stepsOn Chain
   lined-none = record { known = λ r h. absurd (false-elim (member [] r) (member-none r) h); chain = λ o. tt }
+
+  -- a granted step goes on with the chain of its folder
+  chain-new : (g : List Request) (s q o : ℕ) → Lined t g → PassedOver t (member g) (step s q o)
+      → Chain t (record { person = s; number = q } ∷ stepsOn o g)
+  chain-new g s q o l p =
+      chain-step t g (l .known) o s q (l .chain o)
+      (pipeline-published t (member g) (step s q o) .0 (implies-elim _ _ (p .piped) on))
 
   chain-more : (g : List Request) (r : Request) → Lined t g → PassedOver t (member g) r → (o : ℕ) → Chain t (stepsOn o (r ∷ g))
   unfolding stepsOn
@@ -200,17 +207,27 @@ module _ (t : Tables) (on : inForce t pipelineRule ≡ true) where
     where
       go : (b : Bool) → eqb f o ≡ b → Chain t (cond b (record { person = s; number = q } ∷ stepsOn o g) (stepsOn o g))
       go true e =
-          chain-step t g (l .known) o s q (l .chain o)
-          (subst (λ (i : ℕ). Pipeline t (member g) (step s q i)) (eqb-true f o e)
-          (pipeline-published t (member g) (step s q f) .0 (implies-elim _ _ (p .piped) on)))
+          subst (λ (i : ℕ). Chain t (record { person = s; number = q } ∷ stepsOn i g)) (eqb-true f o e) (chain-new g s q f l p)
       go false e = l .chain o
 
-  lined-more : (g : List Request) (r : Request) → Lined t g → PassedOver t (member g) r → Lined t (r ∷ g)
+  pub lined-more : (g : List Request) (r : Request) → Lined t g → PassedOver t (member g) r → Lined t (r ∷ g)
   lined-more g r l p =
       record {
         known = λ q m. ⊎-elim (λ e. rw e (p .parties)) (λ h. l .known q h) (member-cases r q g m);
         chain = chain-more g r l p;
       }
+
+  -- a way leads to a granted step from each step done before on its folder
+  pub new-way : (g : List Request) (s p s′ q o : ℕ) → Lined t g → PassedOver t (member g) (step s′ q o)
+      → member g (step s p o) ≡ true → Way (Enables t) p q
+  new-way g s p s′ q o l passed m = chain-way t _ _ (chain-new g s′ q o l passed) _ (member-steps o s p g m)
+
+  -- of two steps granted one after the other on a folder, the first enables the second
+  pub next-enabled : (g : List Request) (s p s′ q o : ℕ) → Lined t g → PassedOver t (member g) (step s p o)
+      → PassedOver t (member (step s p o ∷ g)) (step s′ q o) → enables t p q ≡ true
+  unfolding stepsOn Chain
+  next-enabled g s p s′ q o l first second =
+      (rw (eq-eqb o o refl) at (chain-new (step s p o ∷ g) s′ q o (lined-more g (step s p o) l first) second)) .0
 
   lined-after : (calls : List (List ℕ)) → Lined t (grantedOver t [] calls)
   lined-after calls = granted-keeps t (Lined t) lined-more [] calls lined-none

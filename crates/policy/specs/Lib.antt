@@ -19,4 +19,6 @@ pub mod Demands
 pub mod PublicFolders
 pub mod StepsAlter
 pub mod Clearances
+pub mod Plans
+pub mod Planning
 pub mod Marked

@@ -70,3 +70,19 @@ pub struct Standing {
     pub rights: u32,
     pub firms: u32,
 }
+
+// A job of a list to be planned (document 02, Point 6): the kind of a request, its person, its folder or second person, and its step,
+// which is passed over unless the kind is 19.
+#[repr(C)]
+pub struct Job {
+    pub action: u8,
+    pub person: u8,
+    pub target: u8,
+    pub step: u8,
+}
+
+// What planning returns: the number, and the places of the jobs, from 0, in the order of putting; zeros after them, and with a refusal.
+pub struct Plan {
+    pub number: u8,
+    pub positions: [u8; 64],
+}

@@ -65,3 +65,9 @@ pub const WRONG_LEVELS_LENGTH: u8 = 20;
 
 // Low-water refuses, in the place of 15: the rank suffices, and a compartment is missing.
 pub const COMPARTMENT_MISSING: u8 = 21;
+
+// A list of more than 64 jobs, or with a start, or with a record that 12 or 13 would refuse.
+pub const NOT_PLANNABLE: u8 = 22;
+
+// No order of the jobs found that is granted throughout.
+pub const NO_ORDER: u8 = 23;

@@ -38,7 +38,7 @@ impl Generator {
 
     /// Mostly one more bit of some possible request, of undeclared parties
     /// too; else any value anywhere, also past the history.
-    fn foreign_byte(&mut self) {
+    pub fn foreign_byte(&mut self) {
         match self.random.below(20) {
             0 => {
                 let at = self.random.below(HISTORY_BUFFER);

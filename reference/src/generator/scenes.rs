@@ -24,6 +24,7 @@ impl Generator {
         self.long_runs();
         self.few_stretches();
         self.levels_held();
+        self.orders_for_jobs();
     }
 
     /// Lists of calls from blank, under every mask and in books of every size.

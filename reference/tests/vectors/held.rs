@@ -45,6 +45,18 @@ fn numbers_of(line: &str, count: usize) -> Vec<usize> {
         .collect()
 }
 
+/// What a command that is none of the five calls leaves in the levels: a byte is
+/// set; and as no reading is about plans, all go on from the levels after one.
+fn go_on(monitor: &mut Monitor, command: &Command, player: &Player) {
+    match *command {
+        Command::LevelByte { at, value } => {
+            monitor.levels[usize::from(at) % LEVEL_BUFFER] = value;
+        }
+        Command::Plan { .. } => monitor.levels.clone_from(&player.levels),
+        _ => {}
+    }
+}
+
 /// Plays the committed calls with the right monitor, which must print what the
 /// player does, and with the others beside it.
 fn play_along(readings: &[Reading]) -> Found {
@@ -72,10 +84,10 @@ fn play_along(readings: &[Reading]) -> Found {
                 let ours = other.monitor.follow(&call);
                 other.compare(call.name, &ours, &expected, &mut found);
             }
-        } else if let Command::LevelByte { at, value } = command {
+        } else {
             let monitors = others.iter_mut().map(|other| &mut other.monitor);
             for monitor in monitors.chain([&mut right]) {
-                monitor.levels[usize::from(at) % LEVEL_BUFFER] = value;
+                go_on(monitor, &command, &player);
             }
         }
         assert_eq!(right.levels, player.levels);
