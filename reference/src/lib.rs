@@ -3,7 +3,8 @@
 //! "Four rules" and "Requests and calls" word by word, and Points 1 (public
 //! folders), 2 (a step alters the folder), 4 (levels held ready), 5 (rank or
 //! compartment) and 6 (an order for the day's jobs) of the later requests, with
-//! sets of requests and plain loops, so that a reader can check it by hand.
+//! sets of requests and plain loops, so that a reader can check it by hand. The
+//! module `planners` is for the tests and not from the papers.
 
 pub mod answers;
 pub mod book;

@@ -1,6 +1,8 @@
 //! The marked book and requests of the section "The program `answers`", a book
-//! with a public folder, one whose steps alter, one of rank or compartment and one
+//! with a public folder, one whose steps alter, one of rank or compartment and two
 //! of jobs in an order.
+
+use crate::{load, Buffers, Request};
 
 pub const BOOK: [u8; 54] = [
     1, 15, // all four rules
@@ -97,3 +99,36 @@ pub const ORDER_JOBS: [u8; 16] = [19, 0, 1, 2, 19, 0, 1, 1, 19, 0, 1, 0, 17, 0, 
 /// The only order that is granted from blank: the first step lowers the person
 /// below the write.
 pub const ORDER: [u8; 4] = [3, 2, 1, 0];
+
+/// One person and one folder, and seven pairs of the steps 0 to 5.
+pub const PAIRS_BOOK: [u8; 37] = [
+    1, 8, // pipeline
+    2, 0, 0, // one firm
+    3, 0, 0, 0, // one person
+    4, 0, 0, 0, 0, 0, // one folder
+    6, 0, 1, 6, 0, 2, 6, 1, 3, 6, 1, 4, 6, 2, 3, 6, 3, 4, 6, 3, 5, // pairs
+    0,
+];
+
+/// The steps whose bits are set: step 5 without 3, which no list from blank
+/// leaves.
+pub const PAIRS_PAST: [u8; 3] = [1, 2, 5];
+
+/// Steps 3 and 4. Of the two alone step 3 must come first, since it enables 4;
+/// but then neither 1 nor 3 is a last step that enables 4.
+pub const PAIRS_JOBS: [u8; 8] = [19, 0, 0, 3, 19, 0, 0, 4];
+
+/// The only order that is granted after these steps: step 1 enables 4, and then
+/// step 2 enables 3.
+pub const PAIRS_ORDER: [u8; 2] = [1, 0];
+
+/// Both buffers after these steps.
+pub fn pairs_buffers() -> Buffers {
+    let step = |step| Request::Step {
+        person: 0,
+        step,
+        folder: 0,
+    };
+    let history = PAIRS_PAST.map(step).into_iter().collect();
+    Buffers::of_set(&load(&PAIRS_BOOK).tables, history)
+}

@@ -6,7 +6,9 @@
 mod drawn;
 
 use drawn::{request_of, tables_with};
-use reference::marked::{ORDER, ORDER_BOOK, ORDER_JOBS};
+use reference::marked::{
+    pairs_buffers, ORDER, ORDER_BOOK, ORDER_JOBS, PAIRS_BOOK, PAIRS_JOBS, PAIRS_ORDER,
+};
 use reference::orders::{all_orders, granted_in_order, own_order_is_granted, some_order};
 use reference::plan::{fault, MOST_JOBS};
 use reference::planners::Planner;
@@ -193,6 +195,30 @@ fn elsewhere_23_is_free() {
     }
 }
 
+/// Where no list from blank leaves the buffers, 23 may come though an order exists:
+/// the search finds the order, and comparing pairs finds none. Both are right
+/// there; after a list 23 would be wrong.
+#[test]
+fn comparing_pairs_may_miss_an_order_elsewhere() {
+    let tables = load(&PAIRS_BOOK).tables;
+    let buffers = pairs_buffers();
+    let Buffers { history, levels } = &buffers;
+    let found = plan(&tables, history, levels, &PAIRS_JOBS);
+    assert_eq!(found, plan_with(0, &PAIRS_ORDER));
+    let missed = Planner::Right.plan(&tables, history, levels, &PAIRS_JOBS);
+    assert_eq!(missed, Plan::refused(23));
+    for (claimed, left, expected) in [
+        (&found, false, "nothing"),
+        (&missed, false, "nothing"),
+        (&found, true, "nothing"),
+        (&missed, true, "there is an order"),
+        (&plan_with(0, &[0, 1]), false, "the order has a refusal"),
+    ] {
+        let said = wrong(&tables, &buffers, &PAIRS_JOBS, left, claimed);
+        assert_eq!(said, expected);
+    }
+}
+
 /// Three persons and four folders of levels near each other; steps 0 to 4 enable
 /// others upwards.
 fn some_tables(random: &mut Random) -> Tables {
@@ -257,7 +283,7 @@ fn disturb(random: &mut Random, state: &mut State) {
 /// some turns find one; else as they come.
 fn some_requests(random: &mut Random, tables: &Tables, state: &State) -> Vec<Request> {
     let (mut after, mut requests) = (state.clone(), Vec::new());
-    let (count, any) = (random.between(3, 5), random.chance(30));
+    let (count, any) = (random.between(0, 6), random.chance(30));
     for _ in 0..60 {
         let request = some_job(random);
         let granted = judge_request(tables, &after, &request) == 0;
@@ -281,7 +307,8 @@ fn some_requests(random: &mut Random, tables: &Tables, state: &State) -> Vec<Req
 fn the_search_finds_what_all_orders_have() {
     let mut random = Random::new(6);
     let (mut with, mut without, mut otherwise) = (0, 0, 0);
-    for round in 0..2_500 {
+    let mut lengths = [0; 7];
+    for round in 0..3_000 {
         let tables = some_tables(&mut random);
         let count = random.below(5);
         let mut state = state_after(&mut random, &tables, count);
@@ -289,6 +316,7 @@ fn the_search_finds_what_all_orders_have() {
             disturb(&mut random, &mut state);
         }
         let requests = some_requests(&mut random, &tables, &state);
+        lengths[requests.len()] += 1;
         let granted =
             |order: &[usize]| granted_in_order(&tables, &state, &requests, order) == order.len();
         let orders = all_orders(requests.len());
@@ -304,7 +332,9 @@ fn the_search_finds_what_all_orders_have() {
         assert_eq!(some_order(&tables, &state, &requests).is_some(), has_order);
     }
     println!("{with} lists with an order, {otherwise} of these not their own; {without} without");
+    println!("lists of 0 to 6 jobs: {lengths:?}");
     assert!(with >= 1_000 && otherwise >= 250 && without >= 500);
+    assert!(lengths.iter().all(|count| *count >= 200));
 }
 
 /// After every list from blank the planner that compares pairs finds an order
@@ -312,7 +342,7 @@ fn the_search_finds_what_all_orders_have() {
 #[test]
 fn comparing_pairs_is_enough_after_a_list() {
     let mut random = Random::new(60);
-    let (mut after_lists, mut elsewhere, mut missed) = ([0; 2], [0; 2], 0);
+    let (mut after_lists, mut elsewhere) = ([0; 2], [0; 2]);
     for round in 0..12_000 {
         let tables = some_tables(&mut random);
         let count = random.below(5);
@@ -336,10 +366,8 @@ fn comparing_pairs_is_enough_after_a_list() {
             &mut elsewhere
         };
         counts[usize::from(claimed.number == 0)] += 1;
-        missed += usize::from(claimed.number == 23 && number(&tables, &buffers, &jobs) == 0);
     }
     println!("without and with an order after lists {after_lists:?}, elsewhere {elsewhere:?}");
-    println!("elsewhere {missed} lists have an order that comparing pairs does not find");
     assert!(after_lists
         .iter()
         .chain(&elsewhere)

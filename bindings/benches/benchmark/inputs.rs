@@ -89,7 +89,7 @@ pub struct Lent {
 }
 
 /// Blank, or a dense history and the levels that it gives.
-fn first_lent(random: &mut Random, book: &[u8], dense: bool) -> Lent {
+pub fn first_lent(random: &mut Random, book: &[u8], dense: bool) -> Lent {
     let mut history = vec![99; HISTORY_BYTES];
     let mut levels = vec![99; LEVELS_BYTES];
     assert_eq!(kweldabe::blank(book, &mut history, &mut levels), 0);

@@ -19,7 +19,7 @@ mod tables;
 
 use bars::Row;
 use inputs::{inputs, Input, Lent, Workload, MONTH, ONE_JUDGE, ONE_REQUEST, WORKLOADS};
-use plans::{LISTS, PLANS};
+use plans::{List, LISTS, PLANS};
 use shared::{HISTORY_BYTES, LEVELS_BYTES};
 use std::env;
 use std::hint::black_box;
@@ -252,7 +252,7 @@ struct Figures {
     one_requests: [Measured<3>; 4],
     one_judges: [Measured<2>; 3],
     loads: Measured<2>,
-    plans: [Measured<2>; 6],
+    plans: [Measured<2>; 8],
 }
 
 impl Figures {
@@ -334,6 +334,7 @@ fn main() -> ExitCode {
         figures.pass();
         return ExitCode::SUCCESS;
     }
+    LISTS.iter().for_each(List::expect_right);
     let own = env::current_exe().expect("the benchmark's own file");
     for _ in 0..PASSES {
         let pass = Command::new(&own).arg(PASS).output().expect("a process");

@@ -1,10 +1,10 @@
 //! The lists of jobs of which the benchmark wants an order, and one plan of each
 //! side. Every list has as many jobs as a list may have, on a book that declares
-//! everything, with all rules in force or none.
+//! everything, with all rules in force or none, from blank or on a dense history.
 
-use crate::inputs::{full_book, Input, Lent, Workload};
+use crate::inputs::{first_lent, full_book, Input, Lent, Workload};
 use crate::planning::{self, MOST_JOBS};
-use crate::shared::{HISTORY_BYTES, LEVELS_BYTES};
+use reference::plan::{fault, Plan};
 use reference::random::Random;
 use std::hint::black_box;
 use std::time::Instant;
@@ -42,10 +42,19 @@ const fn list(name: &'static str, mask: u8, job: fn(u8) -> [u8; 4], number: u8) 
     }
 }
 
+/// The same on a dense history, with all rules in force.
+const fn dense_list(name: &'static str, job: fn(u8) -> [u8; 4], number: u8) -> List {
+    let mut list = list(name, 15, job, number);
+    list.workload.dense = true;
+    list
+}
+
 /// One person steps on 64 folders, from the lowest level to the highest; all 16
 /// steps on each of four folders, from the last to the first; reads of one person
-/// before writes; and two creates on each of 32 folders, which have no order.
-pub static LISTS: [List; 6] = [
+/// before writes; and two creates on each of 32 folders, which have no order. On
+/// a dense history every level is the lowest: reads are granted, and writes above
+/// it have no order.
+pub static LISTS: [List; 8] = [
     list(
         "steps of one person, levels turned round",
         15,
@@ -77,6 +86,12 @@ pub static LISTS: [List; 6] = [
         |k| [19, 0, folder(k), 0],
         0,
     ),
+    dense_list("reads of everybody, dense history", |k| [16, k, k, 0], 0),
+    dense_list(
+        "reads and writes of everybody, dense history",
+        |k| [16 + k % 2, k, k, 0],
+        23,
+    ),
 ];
 
 /// The full book with levels of the folders that rise from a place to the next but
@@ -97,17 +112,33 @@ fn rising_book(mask: u8) -> Vec<u8> {
 }
 
 impl List {
-    /// The input of the list, from blank; the requests are its jobs.
+    /// The input of the list; the requests are its jobs.
     pub fn inputs(&self) -> Vec<Input> {
         let book = rising_book(self.mask);
-        let (mut history, mut levels) = (vec![99; HISTORY_BYTES], vec![99; LEVELS_BYTES]);
-        assert_eq!(kweldabe::blank(&book, &mut history, &mut levels), 0);
+        let first = first_lent(&mut Random::new(2), &book, self.workload.dense);
         let jobs = (0..MOST_JOBS as u8).flat_map(self.job).collect();
         vec![Input {
             book,
             requests: jobs,
-            first: Lent { history, levels },
+            first,
         }]
+    }
+
+    /// Each side's plan is right by the reference.
+    pub fn expect_right(&self) {
+        for input in self.inputs() {
+            let Lent { history, levels } = &input.first;
+            let (book, jobs) = (&input.book, &input.requests);
+            let tables = reference::load(book).tables;
+            for plan in [kweldabe::plan_bytes, planning::plan] {
+                let mut positions = [0; MOST_JOBS];
+                let number = plan(book, history, levels, jobs, &mut positions);
+                assert_eq!(number, self.number, "{}", self.workload.name);
+                let (left, claimed) = (!self.workload.dense, Plan { number, positions });
+                let found = fault(&tables, (history, levels), jobs, left, &claimed);
+                assert_eq!(found, None, "{}", self.workload.name);
+            }
+        }
     }
 
     /// Plans by each side: the jobs that have an order, and the nanoseconds.

@@ -31,6 +31,7 @@ mod tables;
 use mistakes::{Mistake, Mistaken};
 use monitor::Proved;
 use mutant::{Mutant, Mutation};
+use reference::plan::fault;
 use reference::{marked, Buffers};
 use seen::{Plans, Seen, ANSWER, NUMBERS};
 
@@ -201,7 +202,8 @@ fn rank_or_compartment() {
     }
 }
 
-/// The jobs of the worked case, and whatever the number, nothing else is written.
+/// The jobs of the worked case as structs: their only order, and zeros with a
+/// refusal.
 #[test]
 fn jobs_in_their_only_order() {
     let book = &marked::ORDER_BOOK;
@@ -227,6 +229,23 @@ fn jobs_in_their_only_order() {
     for (jobs, number) in [(&jobs[..1], 23), (&[jobs[2], start], 22), (&[], 0)] {
         let positions = [0; 64];
         assert_eq!(plan(jobs), kweldabe::Plan { number, positions });
+    }
+}
+
+/// On a history that no list from blank leaves, 23 or a right order is answered
+/// where comparing pairs finds no order though there is one.
+#[test]
+fn an_order_that_pairs_miss() {
+    let (book, jobs) = (&marked::PAIRS_BOOK, &marked::PAIRS_JOBS);
+    let Buffers { history, levels } = marked::pairs_buffers();
+    let tables = reference::load(book).tables;
+    for plan in [kweldabe::plan_bytes, planning::plan] {
+        let mut positions = [0; 64];
+        let number = plan(book, &history, &levels, jobs, &mut positions);
+        println!("{number} and {:?}", &positions[..2]);
+        let claimed = reference::Plan { number, positions };
+        let found = fault(&tables, (&history, &levels), jobs, false, &claimed);
+        assert_eq!(found, None);
     }
 }
 

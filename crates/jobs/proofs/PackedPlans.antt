@@ -4,7 +4,7 @@ use Prim.Native.Nat.{ℕ, _*_, _-_, _<_, _≤_, min}
 use native.Mathlib.Nat.{min-comm}
 use native.Mathlib.Omega.{arith}
 use mathlib.Core.Path.{_≡_, sym, ap, subst, _∙_}
-use mathlib.Core.Logic.{_≢_, inl, ⊎-elim}
+use mathlib.Core.Logic.{_≢_, ⊎-elim}
 use mathlib.Core.Bool.{Bool, _&&_}
 use mathlib.Core.List.{List, [], _∷_}
 use lib.Dec.{leb}
@@ -21,6 +21,7 @@ use Rattle.policy.specs.Calls.{State}
 use Rattle.policy.specs.Plans.{jobsOf, allPlannable, planRefusal, IsPlan}
 use Rattle.policy.specs.Planning.{jobBytes}
 use Rattle.policy.proofs.JobRecords.{bytes-jobs}
+use Rattle.policy.proofs.Planning.{refused-answer}
 use Rattle.policy.proofs.CallChecks.{sizeRight, heldRight, callNumber, call-other, calls-as}
 use Rattle.jobs.specs.declared.Packed.{Packed}
 use Rattle.jobs.specs.Packing.{packedBytes, packedJobs, jobsIn}
@@ -68,14 +69,7 @@ module _ (t : Tables) (a : State) (packed jobs : List Job) (m : 64 < length pack
     not-unordered e = refused _ _ _ .1 (sym refusal ∙ e)
 
     many-plan : IsPlan t a jobs r
-    many-plan =
-        record {
-          number = inl (refusal ∙ sym (too-many t a jobs n));
-          zeros = p .zeros;
-          order = λ e. absurd (not-granted e);
-          complete = λ e left order. not-unordered e;
-          none = λ empty. not-unordered;
-        }
+    many-plan = refused-answer t a jobs r (refusal ∙ sym (too-many t a jobs n)) not-granted not-unordered (p .zeros not-granted)
 
 -- ---- either way
 

@@ -130,7 +130,7 @@ pub fn plan_bytes(t: Tables, h: &[u8], levels: &[u8], jobs: &[u8]) -> Plan
     planning::plan(t, h, levels, jobs)
 }
 
-// An order of the packed jobs: of the bytes of each job of a list shorter than 65, and else of all.
+// A plan of packed jobs: of a list of at most 64 by its own bytes, of a longer one by all 260, which hold 65 jobs.
 fn plan_packed(t: Tables, h: &[u8], levels: &[u8], p: Packed) -> Plan
     ensures { λ r. ⌜ IsPlan t (state (now (h .entry)) (now (levels .entry))) (jobsIn p) r ⌝ }
 {

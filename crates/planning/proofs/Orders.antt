@@ -4,7 +4,7 @@ use Prim.Native.Nat.{ℕ, _%_, _<_}
 use native.Mathlib.Nat.{mod-eq-of-lt}
 use mathlib.Core.Path.{_≡_, refl, sym, ap, ap₂, _∙_}
 use mathlib.Core.Logic.{⊎-elim}
-use mathlib.Core.Bool.{Bool, true, false, not, _&&_, _||_, and-assoc}
+use mathlib.Core.Bool.{Bool, true, false, not, _&&_, and-assoc}
 use mathlib.Core.List.{List, [], _∷_, List·Memᴰ, List·Memᴰ·head, List·Memᴰ·tail, List·Memᴰ·not-nil, List·Memᴰ·cases-cons}
 use lib.Dec.{eqb}
 use lib.ListN.{length}
@@ -17,7 +17,7 @@ use Rattle.policy.specs.declared.Job.{Job}
 use Rattle.policy.specs.Tables.{enabledBy, enables, inForce, lowWaterRule, pipelineRule}
 use Rattle.policy.specs.Plans.{jobsOf, jobsAt, allPlannable}
 use Rattle.policy.proofs.JobOrders.{permuted-below}
-use Rattle.precedence.specs.Precedence.{lowersLevel, needsLevel, isStep, jobLevel, levelsPermit, stepsPermit, mayPrecede, Ordered}
+use Rattle.precedence.specs.Precedence.{lowersLevel, isStep, jobLevel, levelsPermit, stepsPermit, mayPrecede, Ordered}
 use Rattle.sorting.specs.Sorting.{blocked, InOrder, Sorts}
 use Rattle.planning.specs.declared.pairs.Side.{Side}
 use Rattle.planning.specs.Pairs.{sideBy, sideOf, levelsPass, stepsPass, precedes, jobAt, SidesOf, RowsOf}
@@ -28,12 +28,12 @@ use Rattle.planning.proofs.PlannableLaws.{planned, folder-below, step-b
 
 module _ (t : Tables) (x y : Job) (can-x : planned t x ≡ true) (can-y : planned t y ≡ true) where
   levels-same : levelsPass (sideOf t x) (sideOf t y) ≡ levelsPermit t x y
-  unfolding levelsPass sideOf sideBy levelsPermit inForce lowersLevel needsLevel jobLevel
+  unfolding levelsPass sideOf sideBy levelsPermit inForce jobLevel
   levels-same =
       rw (
         mod-eq-of-lt (folder-below t x can-x),
         mod-eq-of-lt (folder-below t y can-y),
-        and-assoc (bit (t .mask) lowWaterRule) (eqb (x .action) 16 || eqb (x .action) 19) _,
+        and-assoc (bit (t .mask) lowWaterRule) (lowersLevel (x .action)) _,
       )
 
   steps-same : stepsPass (sideOf t x) (sideOf t y) ≡ stepsPermit t x y

@@ -3,7 +3,7 @@
 use Prim.Native.Nat.{ℕ, _-_, _≤_, _<_}
 use native.Mathlib.Omega.{arith}
 use mathlib.Core.Path.{_≡_, refl, sym, ap, _∙_}
-use mathlib.Core.Logic.{inl, _≢_}
+use mathlib.Core.Logic.{_≢_}
 use mathlib.Core.Bool.{Bool, true, false, _&&_}
 use mathlib.Core.List.{List, [], _∷_, List·Memᴰ·not-nil}
 use lib.Dec.{leb}
@@ -16,11 +16,10 @@ use Rattle.policy.specs.declared.Job.{Job}
 use Rattle.policy.specs.Checks.{ladder}
 use Rattle.policy.specs.Calls.{State, callChecks, putNumbers}
 use Rattle.policy.specs.Agreement.{Throughout}
-use Rattle.policy.specs.Plans.{allPlannable, planRefusal, records, jobsAt, places, LeftByList, HasOrder, IsPlan}
+use Rattle.policy.specs.Plans.{allPlannable, planRefusal, records, jobsAt, LeftByList, HasOrder, IsPlan}
 use Rattle.policy.proofs.CallChecks.{call-other, checks-as, taken, ready-then, refused-first}
-use Rattle.policy.proofs.Permuted.{permuted-length}
-use Rattle.policy.proofs.JobOrders.{places-count, permuted-jobs, order-below}
-use Rattle.policy.proofs.Planning.{planning}
+use Rattle.policy.proofs.JobOrders.{count-placed, permuted-jobs, order-below}
+use Rattle.policy.proofs.Planning.{planning, refused-answer}
 use Rattle.precedence.specs.Precedence.{Stuck}
 use Rattle.precedence.proofs.Precedence.{precedence}
 use Rattle.judging.specs.Judging.{Ready}
@@ -44,14 +43,7 @@ module _ (t : Tables) (a : State) (jobs : List Job) where
 
   refused : (n : ℕ) → planRefusal t a jobs ≡ n → n ≢ 0 → n ≢ 23 → IsPlan t a jobs (noPlan n)
   unfolding noPlan
-  refused n e other late =
-      record {
-        number = inl (sym e);
-        zeros = λ k. refl;
-        order = λ z. absurd (other z);
-        complete = λ z. absurd (late z);
-        none = λ empty. late;
-      }
+  refused n e other late = refused-answer t a jobs _ (sym e) other late refl
 
   pub checks-refuse : (n : ℕ) → n ≡ ladder (callChecks t a) → n ≢ 0 → IsPlan t a jobs (noPlan n)
   unfolding planRefusal
@@ -87,8 +79,7 @@ module _ (t : Tables) (a : State) (jobs : List Job) where
 
     module _ {positions : List ℕ} (o : OrderedBy t jobs positions) where
       order-length : length (o .order) ≡ length jobs
-      unfolding places
-      order-length = sym (permuted-length _ _ (o .each)) ∙ places-count 0 (length jobs)
+      order-length = count-placed (length jobs) (o .order) (o .each)
 
       taken-order : take (length jobs) positions ≡ o .order
       taken-order = rw (o .stands) (take-at (o .order) _ (length jobs) order-length)

@@ -25,7 +25,19 @@ use Rattle.policy.specs.declared.Job.{Job}
 use Rattle.policy.specs.declared.Ran.{Ran}
 use Rattle.policy.specs.Checks.{ladder}
 use Rattle.policy.specs.Request.{two, three, requestOf, recordLength}
-use Rattle.policy.specs.Calls.{State, judgeNumber, putState, putNumbers, afterRecord, callsFrom, callsOf, answersDue, refusedIn, runNumber, ran}
+use Rattle.policy.specs.Calls.{
+  State,
+  judgeNumber,
+  putState,
+  putNumbers,
+  afterRecord,
+  callsFrom,
+  callsOf,
+  answersDue,
+  refusedIn,
+  runNumber,
+  ran,
+}
 use Rattle.policy.specs.Agreement.{Throughout}
 use Rattle.policy.specs.Plans.{jobsOf, jobRecord, plannable, allPlannable, records, jobsAt}
 use Rattle.policy.proofs.CallChecks.{Ready, ready-then}

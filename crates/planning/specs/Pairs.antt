@@ -1,7 +1,7 @@
 -- The rules on pairs of jobs, over what is looked up about each job once. Law `pair-same` in proofs/Orders says that this is `mayPrecede`.
 use Prim.Native.Nat.{ℕ, _%_, _<_}
 use mathlib.Core.Path.{_≡_}
-use mathlib.Core.Bool.{Bool, false, not, _&&_, _||_}
+use mathlib.Core.Bool.{Bool, false, not, _&&_}
 use mathlib.Core.List.{List}
 use lib.Dec.{eqb}
 use lib.ListN.{length, getD}
@@ -14,19 +14,19 @@ use Rattle.policy.specs.declared.Job.{Job}
 use Rattle.policy.specs.Tables.{folderAt, enabledBy, lowWaterRule, pipelineRule}
 use Rattle.policy.specs.Plans.{noJob, jobsOf}
 use Rattle.past.specs.Gathering.{FirstAre}
+use Rattle.precedence.specs.Precedence.{lowersLevel, needsLevel, isStep}
 use Rattle.planning.specs.declared.pairs.Side.{Side}
 
--- what is looked up about a job of this action, person, folder and step, where the folder has this level and the step enables these; a read
--- or a step lowers its person's level, a write or a step needs one
+-- what is looked up about a job of this action, person, folder and step, where the folder has this level and the step enables these
 unfoldable pub sideBy : ℕ → ℕ → ℕ → ℕ → ℕ → Level → ℕ → Side
 sideBy mask action person folder step level enabled =
     record {
       person = person;
       folder = folder;
       step = step;
-      lowers = bit mask lowWaterRule && (eqb action 16 || eqb action 19);
-      needs = eqb action 17 || eqb action 19;
-      steps = bit mask pipelineRule && eqb action 19;
+      lowers = bit mask lowWaterRule && lowersLevel action;
+      needs = needsLevel action;
+      steps = bit mask pipelineRule && isStep action;
       level = level;
       enabled = enabled;
     }

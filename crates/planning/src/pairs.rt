@@ -134,11 +134,21 @@ pub fn sides(t: Tables, jobs: &[u8], n: usize) -> [Side; 64]
     all
 }
 
-// The set of those of the first n jobs that job x may not come before.
+// Whether one of two tests holds.
+fn is_any(a: bool, b: bool) -> bool
+    ensures { λ r. ⌜ r ≡ (a || b) ⌝ }
+{
+    if a { true } else { b }
+}
+
+// The set of those of the first n jobs that job x may not come before: none where no rule on pairs asks about x.
 fn row(sides: [Side; 64], n: usize, x: Side) -> u64
     requires { ⌜ n ≤ 64 ⌝ }
     ensures { λ r. ⌜ r ≡ maskBelow n (λ j. not (precedes x (sideAt sides j))) ⌝ }
 {
+    if !is_any(x.lowers, x.steps) {
+        return 0;
+    }
     let mut kept: u64 = 0;
     for j in 0..n {
         kept = bits::with_bit64_if(!may_precede(x, sides[j]), kept, j);

@@ -26,7 +26,7 @@ use mathlib.Core.List.{
 use lib.ListN.{length, getD}
 use Rattle.policy.specs.declared.Job.{Job}
 use Rattle.policy.specs.Plans.{jobRecord, records, jobsAt, placesFrom, places, noJob}
-use Rattle.policy.proofs.Permuted.{permuted-in, permuted-stands, NoRepeats, permuted-no-repeats}
+use Rattle.policy.proofs.Permuted.{permuted-in, permuted-length, permuted-stands, NoRepeats, permuted-no-repeats}
 
 -- ---- jobs at places
 
@@ -83,6 +83,11 @@ pub places-count : (i n : ℕ) → length (placesFrom i n) ≡ n
 unfolding placesFrom
 places-count i zero = refl
 places-count i (suc n) = ap suc (places-count (suc i) n)
+
+-- a reordering of n places has n places
+pub count-placed : (n : ℕ) (order : List ℕ) → Perm (places n) order → length order ≡ n
+unfolding places
+count-placed n order p = sym (permuted-length _ order p) ∙ places-count 0 n
 
 from-between : (i n k : ℕ) → List·Memᴰ k (placesFrom i n) → (i ≤ k) × (k < i + n)
 unfolding placesFrom

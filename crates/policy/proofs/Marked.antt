@@ -79,6 +79,7 @@ use Rattle.policy.specs.Calls.{
   grantedIn,
   refusedIn,
 }
+use Rattle.policy.specs.Plans.{jobsOf, jobRecord, records, jobsAt}
 use Rattle.policy.specs.Marked.{wallAnswer, lowWaterAnswer, heldAnswer, withTotals, MarkedCases}
 
 pub marked-cases : MarkedCases
@@ -90,6 +91,7 @@ unfolding
     counts counted otherClass wallAccess wall observed loweredBy currentLevel someRequest used roleCovers roles done leadsTo pipelineStep
     pipeline modifyOutcome levelOutcome lowWater restOf outcomeNumber requestChecks judgeWith judgeOver addedIf judgeList afterRecord
     callsFrom callsOf grantedIn refusedIn levelAt withLevelAt metWith lowered wallAnswer lowWaterAnswer heldAnswer withTotals
+    jobsOf jobRecord records jobsAt
 marked-cases =
     record {
       P1 = refl;
@@ -111,4 +113,6 @@ marked-cases =
       held-high = refl;
       held-low = refl;
       clearances = refl;
+      jobs-as-listed = refl;
+      jobs-in-order = refl;
     }

@@ -38,12 +38,13 @@ use Rattle.policy.proofs.Answers.{Refuses, one-row, no-rows, refuses-ei
 use Rattle.policy.proofs.Ladders.{ladder-member, ladder-zero, permit-first, all-stand-in}
 use Rattle.policy.proofs.CallChecks.{taken-then, refused-first}
 use Rattle.policy.proofs.CallCauses.{call-rows}
-use Rattle.policy.proofs.Permuted.{permuted-length}
 use Rattle.policy.proofs.JobOrders.{
+  jobs-placed,
   permuted-records,
   records-count,
   record-at,
   places-count,
+  count-placed,
   order-below,
   order-each,
   order-once,
@@ -93,8 +94,7 @@ module _ (t : Tables) (a : State) (jobs : List Job) where
     ordered = (records (jobsAt jobs (w .order)), permuted-records jobs (w .order) (w .each), w .granted)
 
     order-count : length (w .order) ≡ length jobs
-    unfolding places
-    order-count = sym (permuted-length _ (w .order) (w .each)) ∙ places-count 0 (length jobs)
+    order-count = count-placed (length jobs) (w .order) (w .each)
 
     in-order : (k : ℕ) → k < length jobs → (k < length (w .order)) × (getD positions k 0 ≡ getD (w .order) k 0)
     in-order k h =
@@ -189,6 +189,30 @@ module _ (t : Tables) (a : State) (jobs : List Job) where
         none = λ e n. let w : ⊥ = omega arith in w;
       }
 
+-- a plan that a check refuses, and not for want of an order
+pub refused-answer : (t : Tables) (a : State) (jobs : List Job) (r : Plan) → r .number ≡ planRefusal t a jobs → r .number ≢ 0
+    → r .number ≢ 23 → r .positions ≡ replicate 64 0 → IsPlan t a jobs r
+refused-answer t a jobs r e other late zeros =
+    record {
+      number = inl e;
+      zeros = λ k. zeros;
+      order = λ z. absurd (other z);
+      complete = λ z. absurd (late z);
+      none = λ empty. late;
+    }
+
+-- the records of a list, one for each job
+listed-records : (jobs : List Job) → PutSo jobs (places (length jobs)) (records jobs)
+unfolding places
+listed-records jobs =
+    let count = places-count 0 (length jobs) in
+    let same = ap records (jobs-placed jobs) in
+    record {
+      size = sym (ap length same) ∙ records-count jobs (places (length jobs)) ∙ count;
+      at = λ k h.
+          ap (λ (l : List (List ℕ)). getD l k []) (sym same) ∙ record-at jobs (places (length jobs)) k (rw count h);
+    }
+
 -- a list of no jobs is refused only as blank is
 empty-refusal : (t : Tables) (a : State) → planRefusal t a [] ≡ blankNumber t a
 unfolding planRefusal blankNumber callChecks ladder allPlannable
@@ -203,6 +227,7 @@ planning =
       asks = asked-record;
       bytes = bytes-jobs;
       cut = λ jobs b rest h. (noJob, bytes-cut jobs b rest h, no-job-asks);
+      listed = listed-records;
       numbers = answer-number;
       causes = refusal-causes;
       refused = answer-refused;

@@ -5,12 +5,14 @@ use mathlib.Core.Bool.{Bool}
 use mathlib.Core.List.{List, [], _∷_, _++_}
 use Rattle.level.specs.Levels.{meetOf}
 use Rattle.policy.specs.declared.Tables.{Tables}
+use Rattle.policy.specs.declared.Job.{Job}
 use Rattle.policy.specs.Checks.{_else_, ladder}
 use Rattle.policy.specs.Rulebook.{loadBook}
 use Rattle.policy.specs.Request.{Request, read, write, start, step, member}
 use Rattle.policy.specs.Levels.{levelAt, lowered}
 use Rattle.policy.specs.Rules.{wall, levelOutcome, currentLevel}
 use Rattle.policy.specs.Calls.{restOf, callsOf, outcomeNumber, judgeList, grantedIn, refusedIn}
+use Rattle.policy.specs.Plans.{jobsOf, records, jobsAt}
 
 -- the printed book: the role's rights in bytes of their own, since P10 has others
 abbrev pub bookWith : List ℕ → List ℕ
@@ -89,6 +91,27 @@ clearancesBook =
 abbrev pub clearancesRequests : List ℕ
 clearancesRequests = 17 ∷ 0 ∷ 0 ∷ 17 ∷ 0 ∷ 1 ∷ 17 ∷ 0 ∷ 2 ∷ 18 ∷ 0 ∷ 1 ∷ 18 ∷ 1 ∷ 0 ∷ []
 
+-- Point 6: low-water and the pipeline; person 0 at 0x2003, folder 0 at 0x2003, folder 1 at 0x1001, and step 0 enables 1, which enables 2.
+-- Of the jobs, steps 2, 1 and 0 on folder 1 and a write in folder 0, the last must come first and the steps in turn
+abbrev pub jobsBook : List ℕ
+jobsBook =
+    1 ∷ 10
+    ∷ 2 ∷ 0 ∷ 0
+    ∷ 3 ∷ 0 ∷ 3 ∷ 32
+    ∷ 4 ∷ 0 ∷ 0 ∷ 0 ∷ 3 ∷ 32
+    ∷ 4 ∷ 1 ∷ 0 ∷ 0 ∷ 1 ∷ 16
+    ∷ 6 ∷ 0 ∷ 1
+    ∷ 6 ∷ 1 ∷ 2
+    ∷ 0
+    ∷ []
+
+abbrev pub markedJobs : List Job
+markedJobs = jobsOf (19 ∷ 0 ∷ 1 ∷ 2 ∷ 19 ∷ 0 ∷ 1 ∷ 1 ∷ 19 ∷ 0 ∷ 1 ∷ 0 ∷ 17 ∷ 0 ∷ 0 ∷ 7 ∷ [])
+
+-- the answers to the jobs at these places, put in this order from the empty set
+abbrev pub putJobs : List ℕ → List ℕ
+putJobs order = judgeList (loadBook jobsBook .tables) [] (records (jobsAt markedJobs order))
+
 -- the answers of a book and the requests after it, from the empty set
 abbrev pub played : List ℕ → List ℕ
 played bytes = judgeList (loadBook bytes .tables) [] (callsOf (restOf bytes))
@@ -136,3 +159,5 @@ pub record MarkedCases : Type 0 where
   pub held-high : heldAnswer (loadBook stepsBook .tables) (3 ∷ 32 ∷ []) (write 0 0) ≡ 0
   pub held-low : heldAnswer (loadBook stepsBook .tables) (1 ∷ 16 ∷ []) (write 0 0) ≡ 15
   pub clearances : played (clearancesBook ++ clearancesRequests) ≡ 21 ∷ 15 ∷ 15 ∷ 21 ∷ 15 ∷ []
+  pub jobs-as-listed : putJobs (0 ∷ 1 ∷ 2 ∷ 3 ∷ []) ≡ 17 ∷ 17 ∷ 0 ∷ 15 ∷ []
+  pub jobs-in-order : putJobs (3 ∷ 2 ∷ 1 ∷ 0 ∷ []) ≡ 0 ∷ 0 ∷ 0 ∷ 0 ∷ []

@@ -77,6 +77,8 @@ pub record Planning : Type 0 where
   pub cut :
       (jobs : List Job) (b : ℕ) (rest : List ℕ) → length rest < 3
       → (j : Job) × (jobsOf (jobBytes jobs ++ b ∷ rest) ≡ jobs ++ j ∷ []) × ((r : Request) → AsksFor j r → ⊥)
+  -- the records of a list are those of its jobs, one for each, in their order
+  pub listed : (jobs : List Job) → PutSo jobs (places (length jobs)) (records jobs)
   -- every number of plan is a published one
   pub numbers :
       (t : Tables) (a : State) (jobs : List Job) (r : Plan) → IsPlan t a jobs r

@@ -72,7 +72,7 @@ pub struct Standing {
 }
 
 // A job of a list to be planned (document 02, Point 6): the kind of a request, its person, its folder or second person, and its step,
-// which is passed over unless the kind is 19.
+// which is passed over unless the kind is 19. Its four bytes stand in this order, as in C.
 #[repr(C)]
 pub struct Job {
     pub action: u8,

@@ -23,9 +23,9 @@ use Rattle.precedence.specs.Precedence.{lowersLevel, needsLevel, isStep,
 -- r is the request of job j, and the tests on j say of r what the rules see
 pub record Asks (t : Tables) (j : Job) (r : Request) : Type 0 where
   pub is : requestOf (jobRecord j) ≡ some r
-  pub lowers : (s o : ℕ) → Observes r s o ↔ ((lowersLevel j ≡ true) × (j .person ≡ s) × (j .target ≡ o))
-  pub needs : (H : Request → Bool) → LowWater t H r ↔ (needsLevel j ≡ true → BelowAll t H (jobLevel t j) (j .person))
-  pub steps : (s p o : ℕ) → (r ≡ step s p o) ↔ ((isStep j ≡ true) × (j .person ≡ s) × (j .step ≡ p) × (j .target ≡ o))
+  pub lowers : (s o : ℕ) → Observes r s o ↔ ((lowersLevel (j .action) ≡ true) × (j .person ≡ s) × (j .target ≡ o))
+  pub needs : (H : Request → Bool) → LowWater t H r ↔ (needsLevel (j .action) ≡ true → BelowAll t H (jobLevel t j) (j .person))
+  pub steps : (s p o : ℕ) → (r ≡ step s p o) ↔ ((isStep (j .action) ≡ true) × (j .person ≡ s) × (j .step ≡ p) × (j .target ≡ o))
 
 module _ (t : Tables) (j : Job) where
   read-asks : j .action ≡ 16 → Asks t j (read (j .person) (j .target))
@@ -95,21 +95,21 @@ four-imply false b c d e = (λ h p q r s. absurd (false≢true p), λ f. refl)
 
 module _ (t : Tables) (x y : Job) where
   pub levels-permit : (levelsPermit t x y ≡ true)
-      ↔ (inForce t lowWaterRule ≡ true → lowersLevel x ≡ true → needsLevel y ≡ true → x .person ≡ y .person
+      ↔ (inForce t lowWaterRule ≡ true → lowersLevel (x .action) ≡ true → needsLevel (y .action) ≡ true → x .person ≡ y .person
       → atMost 12 (jobLevel t y) (jobLevel t x) ≡ true)
   unfolding levelsPermit
   levels-permit =
-      let all = four-imply (inForce t lowWaterRule) (lowersLevel x) (needsLevel y) (eqb (x .person) (y .person)) _ in (
+      let all = four-imply (inForce t lowWaterRule) (lowersLevel (x .action)) (needsLevel (y .action)) (eqb (x .person) (y .person)) _ in (
         λ h on lowers needs one. all .0 h on lowers needs (eq-eqb _ _ one),
         λ f. all .1 (λ on lowers needs one. f on lowers needs (eqb-true _ _ one)),
       )
 
   pub steps-permit : (stepsPermit t x y ≡ true)
-      ↔ (inForce t pipelineRule ≡ true → isStep x ≡ true → isStep y ≡ true → x .target ≡ y .target
+      ↔ (inForce t pipelineRule ≡ true → isStep (x .action) ≡ true → isStep (y .action) ≡ true → x .target ≡ y .target
       → enables t (y .step) (x .step) ≡ true → ⊥)
   unfolding stepsPermit
   steps-permit =
-      let all = four-imply (inForce t pipelineRule) (isStep x) (isStep y) (eqb (x .target) (y .target)) _ in (
+      let all = four-imply (inForce t pipelineRule) (isStep (x .action)) (isStep (y .action)) (eqb (x .target) (y .target)) _ in (
         λ h on first second one. false-elim _ (not-true _ (all .0 h on first second (eq-eqb _ _ one))),
         λ f. all .1 (λ on first second one. ap not (false-intro _ (f on first second (eqb-true _ _ one)))),
       )

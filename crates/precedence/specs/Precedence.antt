@@ -15,16 +15,16 @@ use Rattle.policy.specs.Calls.{State}
 use Rattle.policy.specs.Agreement.{Throughout}
 use Rattle.policy.specs.Plans.{noJob, allPlannable, records, LeftByList, HasOrder}
 
--- the job lowers its person's level: a read or a step
-unfoldable pub lowersLevel : Job → Bool
-lowersLevel j = eqb (j .action) 16 || eqb (j .action) 19
+-- a job of this action lowers its person's level: a read or a step
+unfoldable pub lowersLevel : ℕ → Bool
+lowersLevel action = eqb action 16 || eqb action 19
 
--- low-water asks for the level of the job's person: a write or a step
-unfoldable pub needsLevel : Job → Bool
-needsLevel j = eqb (j .action) 17 || eqb (j .action) 19
+-- low-water asks for the level of its person: a write or a step
+unfoldable pub needsLevel : ℕ → Bool
+needsLevel action = eqb action 17 || eqb action 19
 
-unfoldable pub isStep : Job → Bool
-isStep j = eqb (j .action) 19
+unfoldable pub isStep : ℕ → Bool
+isStep action = eqb action 19
 
 -- the level of a job's folder
 unfoldable pub jobLevel : Tables → Job → ℕ
@@ -33,13 +33,13 @@ jobLevel t j = folderAt t (j .target) .level .0
 -- low-water: where x lowers the level of a person of whom y needs one, the level of y is at most that of x
 unfoldable pub levelsPermit : Tables → Job → Job → Bool
 levelsPermit t x y =
-    (inForce t lowWaterRule && (lowersLevel x && (needsLevel y && eqb (x .person) (y .person))))
+    (inForce t lowWaterRule && (lowersLevel (x .action) && (needsLevel (y .action) && eqb (x .person) (y .person))))
     implies atMost 12 (jobLevel t y) (jobLevel t x)
 
 -- the pipeline: where both are steps on one folder, y does not directly enable x
 unfoldable pub stepsPermit : Tables → Job → Job → Bool
 stepsPermit t x y =
-    (inForce t pipelineRule && (isStep x && (isStep y && eqb (x .target) (y .target))))
+    (inForce t pipelineRule && (isStep (x .action) && (isStep (y .action) && eqb (x .target) (y .target))))
     implies not (enables t (y .step) (x .step))
 
 -- x may come before y, by every rule on pairs

@@ -1,4 +1,5 @@
 -- `looked_up` is what is looked up about a job, field by field.
+use Rattle.precedence.specs.Precedence.{lowersLevel, needsLevel, isStep}
 use Rattle.planning.specs.Pairs.{sideBy}
 use borrow.Author.Needs.{needs}
 use Rattle.planning.proofs.pairs.looked_up.Statement.{statement}
@@ -28,7 +29,7 @@ both-requires-2 : tie.Need-both-requires-2
 both-requires-2 c κs = search needs
 
 returns : tie.Need-returns
-unfolding sideBy
+unfolding sideBy lowersLevel needsLevel isStep
 returns c =
     let first = c .before .before .before in
     rw (

@@ -1,13 +1,15 @@
--- `row` puts each job that x may not come before into the set, one after another.
+-- `row` puts each job that x may not come before into the set, one after another; there is none where no rule asks about x.
 use Prim.Native.Nat.{ℕ, _-_, _≤_}
 use native.Mathlib.Nat.{mod-eq-of-lt}
 use native.Mathlib.Omega.{arith}
 use mathlib.Core.Path.{_≡_, sym, ap, ap₂, _∙_}
 use mathlib.Core.Bool.{Bool, cond, not}
 use Rattle.bits.specs.Bits.{withBit, maskBelow}
-use Rattle.bits.proofs.Masks.{mask-start, mask-step}
+use Rattle.bits.proofs.Masks.{mask-start, mask-step, mask-none}
 use Rattle.planning.specs.Pairs.{precedes, sideAt}
+use Rattle.planning.proofs.Implied.{unasked}
 use borrow.Author.Needs.{needs}
+use borrow.Author.Tests.{not-true}
 use Rattle.planning.proofs.pairs.row.Statement.{statement}
 use Rattle.planning.proofs.pairs.row.Tie as tie
 use Rattle.planning.proofs.pairs.row.Reads as reads
@@ -20,6 +22,14 @@ Inv-loop n x sides kept₀ j₀ kept j = (j ≤ n) × (kept ≡ maskBelow j (λ 
 
 abbrev μ-loop : tie.MeasureT-loop
 μ-loop n x sides kept₀ j₀ kept j = n - j
+
+is-any-requires : tie.Need-is-any-requires Inv-loop μ-loop
+is-any-requires c κs = search needs
+
+returns : tie.Need-returns Inv-loop μ-loop
+returns c =
+    let args = c .before .before .args in
+    sym (mask-none (args .n) _ (λ j l. ap not (unasked (args .x) _ (sym (c .before .is-any .ensures) ∙ not-true _ (c .if1 .taken)))))
 
 loop-holds : tie.Need-loop-holds Inv-loop μ-loop
 loop-holds c = (search needs, sym (mask-start _))
@@ -53,11 +63,12 @@ loop-again c =
           (ap not (c .before .may-precede .ensures)) (mod-eq-of-lt (omega arith))),
     )
 
-returns : tie.Need-returns Inv-loop μ-loop
-returns c =
-    let args = c .before .before .args in
-    let all : c .before .loop .j ≡ args .n = omega arith in
-    c .before .loop .inv .1 ∙ ap (λ (k : ℕ). maskBelow k (λ j. not (precedes (args .x) (sideAt (args .t1) j)))) all
+returns-2 : tie.Need-returns-2 Inv-loop μ-loop
+returns-2 c =
+    let looped = c .before in
+    let args = looped .before .before .before .args in
+    let all : looped .loop .j ≡ args .n = omega arith in
+    looped .loop .inv .1 ∙ ap (λ (k : ℕ). maskBelow k (λ j. not (precedes (args .x) (sideAt (args .t1) j)))) all
 
 pub row-spec : {M : Type 1} → statement M
 row-spec =
@@ -65,6 +76,8 @@ row-spec =
     (tie.spec
     Inv-loop
     μ-loop
+    is-any-requires
+    returns
     loop-holds
     mul-may-precede
     array-copy-out-may-precede
@@ -73,4 +86,4 @@ row-spec =
     add-j
     loop-less
     loop-again
-    returns)
+    returns-2)
