@@ -21,15 +21,15 @@ use Rattle.policy.specs.Rulebook.{given}
 use Rattle.policy.specs.Request.{Request, setOf}
 use Rattle.policy.specs.Rules.{used, done}
 use Rattle.history.specs.Words.{wordAt}
-use Rattle.past.specs.Gathering.{FirstAre}
-use Rattle.past.specs.Turns.{stepAt, steppedAt}
-use Rattle.past.proofs.Steppers.{step-word}
+use Rattle.recorded.specs.Gathering.{FirstAre}
+use Rattle.recorded.specs.Recorded.{stepAt, steppedAt}
+use Rattle.recorded.proofs.Steppers.{step-word}
 use Rattle.pipeline.specs.Steps.{doneBy, pipelineIn}
 use Rattle.pipeline.proofs.StepLaws.{done-set, pipeline-in}
 use Rattle.rules.specs.Kept.{SetsFor, HasFirms, HasHolding, HasHolders, HasDone, HasNext, holdsAll, holdsRight, mayBeNext}
-use Rattle.gathering.specs.Adding.{touchedIn}
-use Rattle.gathering.specs.Groups.{Grouped, firmGroup, kindGroup}
-use Rattle.gathering.specs.Turning.{turnedRow}
+use Rattle.grouping.specs.Adding.{touchedIn}
+use Rattle.grouping.specs.Groups.{Grouped, firmGroup, kindGroup}
+use Rattle.grouping.specs.Turning.{turnedRow}
 use Rattle.gathering.specs.Users.{PersonSets, RoleRows, HolderRows, usedIn, beyond}
 use Rattle.gathering.proofs.RoleLaws.{narrow, covers-is}
 use Rattle.gathering.proofs.UserLaws.{counted-in, used-in}

@@ -19,7 +19,7 @@ use Rattle.bits.proofs.BitLaws.{bit-and, bit-or, bit-zero, bit-half, bit-low, b
 use Rattle.bits.proofs.Booleans.{and-left, and-right, and-both, decide, false-elim}
 use Rattle.bits.proofs.Bounds.{any-ext, any-some, some-any}
 use Rattle.bits.proofs.Masks.{mask-lt, bit-mask, bit-mask-below}
-use Rattle.past.specs.Visits.{Leads}
+use Rattle.recorded.specs.Visits.{Leads}
 use Rattle.rules.specs.Sets.{covers}
 use Rattle.gathering.specs.Users.{Rows, Holds, amongSets, joinSet, beyond}
 use Rattle.gathering.proofs.UserLaws.{zeros-at}

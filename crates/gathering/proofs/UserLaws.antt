@@ -22,13 +22,13 @@ use Rattle.policy.specs.Rulebook.{given}
 use Rattle.policy.specs.History.{bitAt}
 use Rattle.policy.specs.Request.{read, write, start, step, index, setOf}
 use Rattle.policy.specs.Rules.{right, someRequest, firmOfSome, did, accessed, counts, counted, used}
-use Rattle.past.specs.Turns.{readAt, writtenAt, stepAt, touchedAt, started}
+use Rattle.recorded.specs.Recorded.{readAt, writtenAt, stepAt, touchedAt, started}
 use Rattle.past.proofs.Gathered.{any-or}
-use Rattle.past.proofs.Recorded.{entry-below, any-and, did-read, did-write, did-step, did-start, undeclared, touched-access}
-use Rattle.gathering.specs.Adding.{Added, recordedIn, touchedIn, appliedTo, appliedIn}
-use Rattle.gathering.specs.Groups.{Grouped, groupOf, firmGroup, kindGroup}
+use Rattle.recorded.proofs.Recorded.{entry-below, any-and, did-read, did-write, did-step, did-start, undeclared, touched-access}
+use Rattle.grouping.specs.Adding.{Added, recordedIn, touchedIn, appliedTo, appliedIn}
+use Rattle.grouping.specs.Groups.{Grouped, groupOf, firmGroup, kindGroup}
 use Rattle.gathering.specs.Users.{PersonSets, usedIn}
-use Rattle.gathering.proofs.AddingLaws.{added-both, added-one, added-ext}
+use Rattle.grouping.proofs.AddingLaws.{added-both, added-one, added-ext}
 
 -- ---- sets that were empty
 

@@ -1,4 +1,1 @@
-pub mod Turning
-pub mod Adding
-pub mod Groups
 pub mod Users

@@ -10,8 +10,8 @@ use Rattle.bits.specs.Bits.{bit}
 use Rattle.bits.specs.Bounded.{anyBelow}
 use Rattle.policy.specs.declared.Tables.{Tables}
 use Rattle.policy.specs.Tables.{roleAt}
-use Rattle.past.specs.Turns.{started}
-use Rattle.gathering.specs.Adding.{recordedIn, appliedIn}
+use Rattle.recorded.specs.Recorded.{started}
+use Rattle.grouping.specs.Adding.{recordedIn, appliedIn}
 
 -- set x has those of the 64 persons of whom P x holds
 pub record PersonSets (P : ℕ → ℕ → Bool) (sets : List ℕ) : Type 0 where

@@ -11,17 +11,17 @@ ghost use Rattle.policy.specs.Tables.{personDeclared};
 ghost use Rattle.policy.specs.Rulebook.{given};
 ghost use Rattle.policy.specs.History.{historyBytes};
 ghost use Rattle.policy.specs.Request.{Request, setOf};
-ghost use Rattle.past.specs.Gathering.{FirstAre};
+ghost use Rattle.recorded.specs.Gathering.{FirstAre};
 ghost use Rattle.pipeline.specs.Steps.{doneBy, pipelineIn};
 ghost use Rattle.rules.specs.Kept.{HasFirms, HasHolding, HasHolders, HasDone, HasNext};
-ghost use Rattle.gathering.specs.Adding.{GroupsFit, touchedIn};
+ghost use Rattle.grouping.specs.Adding.{GroupsFit, touchedIn};
 ghost use Rattle.gathering.specs.Users.{PersonSets, usedIn};
+use grouping::groups;
+use grouping::turning;
+use grouping::words;
 use policy::Tables;
 
-pub mod groups;
 pub mod roles;
-pub mod turning;
-pub mod words;
 
 // For each group of folders the persons who touched one of them.
 fn openers(h: &[u8], groups: &[usize; 128]) -> [u64; 81]
@@ -94,7 +94,7 @@ fn done_on(h: &[u8], persons: u64, o: usize) -> u64
     requires { ⌜ (length (now h) ≡ historyBytes) × (o < 128) ⌝ }
     ensures { λ r. ⌜ r ≡ maskBelow 16 (doneBy (now (h .entry)) persons o) ⌝ }
 {
-    if past::steps::steppers(h, o) & persons == 0 {
+    if recorded::steps::steppers(h, o) & persons == 0 {
         return 0;
     }
     bits::word16(pipeline::steps_done(h, persons, o))

@@ -1,5 +1,1 @@
-pub mod JudgingLaws
-pub mod Deciding
-pub mod AskingLaws
-pub mod Posings
 pub mod RoleRights

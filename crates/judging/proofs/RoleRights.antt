@@ -24,15 +24,16 @@ use Rattle.policy.specs.Rulebook.{given}
 use Rattle.policy.specs.Request.{Request, subject, setOf}
 use Rattle.policy.specs.Rules.{declared, right, used, roles}
 use Rattle.past.specs.Found.{Within, FoundOf}
-use Rattle.past.specs.Gathering.{appliedAt}
+use Rattle.recorded.specs.Gathering.{appliedAt}
 use Rattle.past.specs.Past.{rightsBelow}
-use Rattle.past.specs.Turns.{withBitIf, started, rightsWith}
+use Rattle.recorded.specs.Recorded.{withBitIf, started}
+use Rattle.past.specs.Turns.{rightsWith}
 use Rattle.past.proofs.FoundLaws.{within-self, within-trans, within-added, found-held}
 use Rattle.past.proofs.Gathered.{rights-whole}
-use Rattle.past.proofs.GatheringLaws.{sixteen}
+use Rattle.recorded.proofs.GatheringLaws.{sixteen}
 use Rattle.rules.specs.Sets.{HasRoles, covers, rolesIn}
 use Rattle.rules.proofs.SetLaws.{roles-in}
-use Rattle.judging.specs.Judging.{RolesPermit}
+use Rattle.questions.specs.Judging.{RolesPermit}
 
 -- ---- sets within sets
 

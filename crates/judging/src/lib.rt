@@ -16,17 +16,16 @@ ghost use Rattle.policy.specs.Rules.{wallAccess};
 ghost use Rattle.past.specs.Turns.{rightsWith};
 ghost use Rattle.request.specs.Parsed.{asRequest};
 ghost use Rattle.rules.specs.Sets.{HasRoles, rolesIn};
-ghost use Rattle.judging.specs.Judging.{Ready, RolesPermit, numberFor};
-use past::applied;
+ghost use Rattle.questions.specs.Judging.{Ready, RolesPermit, numberFor};
 use past::rights;
 use past::wall;
 use policy::Tables;
 use policy::numbers;
+use questions::asking;
+use questions::known;
+use questions::question;
+use recorded::applied;
 use request::Parsed;
-
-pub mod asking;
-pub mod known;
-mod question;
 
 // Whether the wall, if it is asked, permits person s an access to folder o. Otherwise nothing is gathered for it.
 fn wall_permits(t: Tables, asked: bool, h: &[u8], s: usize, o: usize) -> bool

@@ -23,9 +23,9 @@ use Rattle.policy.specs.Tables.{inForce, wallRule, lowWaterRule, rolesRule, pip
 use Rattle.policy.specs.Request.{Request, hasPlace}
 use Rattle.policy.specs.Rules.{declared, wall, levelOutcome, lowWater, roles, pipeline}
 use Rattle.policy.specs.Calls.{outcomeNumber, requestChecks}
-use Rattle.keeping.specs.Kinds.{asksLevel, isStep}
-use Rattle.keeping.specs.Failing.{Failing, firstFailing, numberAt, rivals, rankLacks, compartmentLacks, failingOf}
-use Rattle.keeping.proofs.FailingLaws.{every, every-at}
+use Rattle.branchfree.specs.Kinds.{asksLevel, isStep}
+use Rattle.branchfree.specs.Failing.{Failing, firstFailing, numberAt, rivals, rankLacks, compartmentLacks, failingOf}
+use Rattle.branchfree.proofs.FailingLaws.{every, every-at}
 
 -- ---- the number of the first test that fails
 

@@ -11,7 +11,7 @@ use Rattle.bits.specs.Bits.{bit}
 use Rattle.bits.proofs.Booleans.{decide, false-elim}
 use Rattle.bits.proofs.BitLaws.{bit-and, bit-zero}
 use Rattle.policy.specs.Tables.{wallRule, rolesRule, pipelineRule}
-use Rattle.keeping.specs.Failing.{othersOf}
+use Rattle.branchfree.specs.Failing.{othersOf}
 
 -- a mask with none of some rules, of which rule k is one
 pub not-among : (mask some k : ℕ) → bitAnd mask some ≡ 0 → some / 2 ^ k % 2 ≡ 1 → bit mask k ≡ false

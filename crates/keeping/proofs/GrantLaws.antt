@@ -23,7 +23,7 @@ use Rattle.policy.proofs.OneMore.{one-more}
 use Rattle.pipeline.specs.Steps.{pipelineIn}
 use Rattle.pipeline.proofs.StepLaws.{pipeline-in}
 use Rattle.rules.specs.Kept.{mayBeNext, HasFirms, HasDone, HasNext}
-use Rattle.keeping.specs.Kinds.{isAccess, isStep}
+use Rattle.branchfree.specs.Kinds.{isAccess, isStep}
 use Rattle.keeping.proofs.KeptLaws.{sets-same, sets-stored}
 
 -- ---- kinds

@@ -34,8 +34,8 @@ use Rattle.rules.specs.Kept.{mayBeNext}
 use Rattle.rules.proofs.SetLaws.{wall-in}
 use Rattle.levels.specs.Sets.{LevelSets}
 use Rattle.levels.proofs.SetLaws.{level-lt}
-use Rattle.keeping.specs.Kinds.{targetOf, asksLevel, isAccess, isStep}
-use Rattle.keeping.specs.Failing.{rivals, rankLacks, compartmentLacks}
+use Rattle.branchfree.specs.Kinds.{targetOf, asksLevel, isAccess, isStep}
+use Rattle.branchfree.specs.Failing.{rivals, rankLacks, compartmentLacks}
 
 -- ---- the sets of levels
 

@@ -1,7 +1,4 @@
-pub mod KindLaws
-pub mod FailingLaws
 pub mod FewerLaws
-pub mod UpdateLaws
 pub mod KeptLaws
 pub mod GrantLaws
 pub mod Deciding

@@ -30,7 +30,7 @@ use Rattle.pipeline.specs.Steps.{pipelineIn}
 use Rattle.rules.specs.Kept.{holdsRight, HasFirms, HasHolding, HasDone, HasNext}
 use Rattle.levels.specs.Sets.{LevelSets}
 use Rattle.levels.proofs.SetLaws.{sets-met}
-use Rattle.keeping.specs.Kinds.{placeOf, targetOf, lowers, isAccess, isStep}
+use Rattle.branchfree.specs.Kinds.{placeOf, targetOf, lowers, isAccess, isStep}
 use Rattle.keeping.specs.Keeping.{Kept, kept, Keeps}
 use Rattle.keeping.proofs.KeptLaws.{holding-more}
 use Rattle.keeping.proofs.GrantLaws.{firms-more, done-same, next-same, done-more, next-more}

@@ -33,13 +33,13 @@ use Rattle.rules.specs.Sets.{firmsOf}
 use Rattle.rules.specs.Kept.{holdsRight}
 use Rattle.level.specs.Sets.{levelSet}
 use Rattle.levels.proofs.SetLaws.{level-lt}
-use Rattle.keeping.specs.declared.Asked.{Asked}
-use Rattle.keeping.specs.declared.kinds.Placed.{Placed}
-use Rattle.keeping.specs.Kinds.{placedBy, rightBy, askedBy, lowers, isAccess, isStep, Exact, PlacedAs, RowOf}
-use Rattle.keeping.specs.Failing.{Failing, firstFailing, numberAt, grantAt, failingOf}
+use Rattle.branchfree.specs.declared.first.Asked.{Asked}
+use Rattle.branchfree.specs.declared.kinds.Placed.{Placed}
+use Rattle.branchfree.specs.Kinds.{placedBy, rightBy, askedBy, lowers, isAccess, isStep, Exact, PlacedAs, RowOf}
+use Rattle.branchfree.specs.Failing.{Failing, firstFailing, numberAt, grantAt, failingOf}
 use Rattle.keeping.specs.Keeping.{Kept, kept, Keeps, Serves, PutKept, Changed}
-use Rattle.keeping.proofs.KindLaws.{placed-as, row-of, right-small, right-is, folder-number}
-use Rattle.keeping.proofs.FailingLaws.{granted-at}
+use Rattle.branchfree.proofs.KindLaws.{placed-as, row-of, right-small, right-is, folder-number}
+use Rattle.branchfree.proofs.FailingLaws.{granted-at}
 use Rattle.keeping.proofs.KeptLaws.{roles-kept}
 use Rattle.keeping.proofs.Deciding.{decided, not-declared}
 use Rattle.keeping.proofs.Known.{levelIn, markIn, set-at, level-small, parties-known, outcome-known, wall-known, pipeline-known}

@@ -22,9 +22,9 @@ use Rattle.levels.specs.Sets.{LevelSets}
 use Rattle.rules.specs.Sets.{firmsOf}
 use Rattle.request.specs.declared.Parsed.{Parsed}
 use Rattle.pipeline.specs.Steps.{pipelineIn}
-use Rattle.keeping.specs.declared.Asked.{Asked}
-use Rattle.keeping.specs.declared.kinds.Placed.{Placed}
-use Rattle.keeping.specs.Kinds.{askedBy, lowers, isStep}
+use Rattle.branchfree.specs.declared.first.Asked.{Asked}
+use Rattle.branchfree.specs.declared.kinds.Placed.{Placed}
+use Rattle.branchfree.specs.Kinds.{askedBy, lowers, isStep}
 use Rattle.rules.specs.Kept.{HasFirms, HasHolding, HasHolders, HasDone, HasNext}
 
 -- the firms that the wall counts and the roles that hold all rights used, of each person; the steps done and those that may be next, of

@@ -6,12 +6,12 @@ ghost use lib.Bits.{bitAnd};
 ghost use lib.ListN.{length};
 ghost use Rattle.policy.specs.declared.Folder.{Folder as Entry};
 ghost use Rattle.policy.specs.History.{historyBytes};
-ghost use Rattle.keeping.specs.Kinds.{kindRows};
-ghost use Rattle.keeping.specs.Failing.{numberAt, grantAt};
+ghost use Rattle.branchfree.specs.Kinds.{kindRows};
+ghost use Rattle.branchfree.specs.Failing.{numberAt, grantAt};
 ghost use Rattle.keeping.specs.Keeping.{kept, Puts};
-use crate::checks;
-use crate::kinds;
-use crate::updates;
+use branchfree::checks;
+use branchfree::kinds;
+use branchfree::updates;
 use policy::Folder;
 use request::Parsed;
 

@@ -2,91 +2,24 @@
 // fails is found, and what a granted request changes is brought up to date, in a step whose cost does not depend on the history. No jump
 // tells kinds or answers apart: which comes next cannot be foreseen, and a wrong guess costs more than all the rest.
 ghost use mathlib.Core.Path.{_≡_};
-ghost use mathlib.Core.Bool.{Bool, cond, not, _&&_};
-ghost use lib.Dec.{eqb};
-ghost use lib.Bits.{bitAnd};
-ghost use Rattle.bits.specs.Bits.{bit};
-ghost use Rattle.policy.specs.Tables.{wallRule, rolesRule, pipelineRule};
-ghost use Prim.Native.Nat.{ℕ, _%_, _<_};
-ghost use Rattle.level.specs.Sets.{levelSet};
+ghost use mathlib.Core.Bool.{Bool, cond};
+ghost use Prim.Native.Nat.{_<_};
 ghost use lib.ListN.{length};
 ghost use Rattle.policy.specs.History.{historyBytes};
-ghost use Rattle.policy.specs.Request.{Request, hasPlace};
-ghost use Rattle.keeping.specs.Kinds.{kindRows, RowOf, isStep};
-ghost use Rattle.keeping.specs.Failing.{firstFailing, othersOf, rivals, failingOf, numberAt, grantAt};
+ghost use Rattle.policy.specs.Request.{Request};
+ghost use Rattle.branchfree.specs.Kinds.{kindRows, RowOf};
+ghost use Rattle.branchfree.specs.Failing.{numberAt, grantAt};
 ghost use Rattle.keeping.specs.Keeping.{kept, sets, Sized, Within, Added, Changed, Puts};
-use kinds::Placed;
+use branchfree::checks;
+use branchfree::first;
+use branchfree::first::Asked;
+use branchfree::kinds;
+use branchfree::kinds::Placed;
+use branchfree::updates;
 use policy::Folder;
 use request::Parsed;
 
-pub mod checks;
 mod fewer;
-pub mod kinds;
-pub mod updates;
-
-// The sets that a request is judged by: the level that is needed and the person's own, the firms of the folder's class and those that the
-// wall counts, the roles that hold all rights used and those that hold the new one, and the steps that may be next.
-pub struct Asked {
-    pub needed: u64,
-    pub own: u64,
-    pub class: u64,
-    pub counted: u64,
-    pub holding: u64,
-    pub holders: u64,
-    pub next: u64,
-}
-
-// The wall, the roles and the pipeline, for a request of a kind, which the wall asks about if `counts` is 1.
-fn others_check(
-    mask: u8,
-    rows: &[u64; 64],
-    kind: u8,
-    at: Placed,
-    counts: u64,
-    firm: usize,
-    asked: Asked,
-) -> u64
-    requires { ⌜ now rows ≡ kindRows ⌝ }
-    ensures { λ r. ⌜
-        ((q : Request) (c : Bool) → RowOf q kind → counts ≡ cond c 1 0
-        → r
-        ≡ othersOf (bit mask wallRule && (rivals (asked .counted) (asked .class) firm && c))
-        (bit mask rolesRule && eqb (bitAnd (asked .holding) (asked .holders)) 0)
-        (bit mask pipelineRule && (not (bit (asked .next) (at .step % 64)) && isStep q)))
-        ⌝ }
-{
-    let wall = checks::wall_check(mask, asked.counted, asked.class, firm, counts);
-    let roles = checks::roles_check(mask, asked.holding, asked.holders);
-    let step = kinds::row(rows, kind, kinds::STEP);
-    wall | roles | checks::pipeline_check(mask, asked.next, at.step, step)
-}
-
-// The first check that fails for a request of a kind, which the wall asks about if `counts` is 1.
-fn judge(
-    mask: u8,
-    rows: &[u64; 64],
-    kind: u8,
-    at: Placed,
-    counts: u64,
-    firm: usize,
-    asked: Asked,
-) -> usize
-    requires { ⌜ now rows ≡ kindRows ⌝ }
-    ensures { λ r. ⌜
-        (r < 7)
-        × ((q : Request) (a b : ℕ) (m n c : Bool) → RowOf q kind → at .outside ≡ cond (hasPlace q) 0 1 → counts ≡ cond c 1 0 → a < 65536
-        → b < 65536 → asked .needed ≡ levelSet a m → asked .own ≡ levelSet b n
-        → r
-        ≡ firstFailing
-        (failingOf q mask a b m n c (asked .counted) (asked .class) firm (asked .holding) (asked .holders) (asked .next) (at .step)))
-        ⌝ }
-{
-    let unknown = checks::unknown_check(at.outside, asked.needed, asked.own);
-    let asks = kinds::row(rows, kind, kinds::CHECKS);
-    let level = checks::level_check(mask, asked.needed, asked.own, asks);
-    let others = others_check(mask, rows, kind, at, counts, firm, asked);
-    checks::first_check(unknown, level, others)
-}
 
 // Adds a granted request to what is kept of persons and folders, if `all` has every bit; `made` is 1 for a granted step.
 fn keep(
@@ -221,7 +154,7 @@ fn put_by_all(
         holders: held,
         next: next[o],
     };
-    let first = judge(mask, rows, kind, at, counts, firm, asked);
+    let first = first::judge(mask, rows, kind, at, counts, firm, asked);
     let all = grants[first];
     change(
         mask,

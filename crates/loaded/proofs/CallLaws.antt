@@ -48,7 +48,7 @@ use Rattle.policy.proofs.Histories.{judge-with}
 use Rattle.policy.proofs.CallChecks.{taken, ready-then, refused-first}
 use Rattle.request.specs.declared.Parsed.{Parsed}
 use Rattle.request.specs.Parsed.{asRequest, ParsedFrom}
-use Rattle.judging.specs.Judging.{Ready, numberFor}
+use Rattle.questions.specs.Judging.{Ready, numberFor}
 use Rattle.past.specs.declared.Past.{Past}
 use Rattle.past.specs.Past.{pastOf}
 use Rattle.past.proofs.PastLaws.{used-count, opened-count}

@@ -10,7 +10,7 @@ use policy::Ran;
 use policy::Standing;
 use policy::Tables;
 use policy::numbers;
-use running::alone;
+use putting::alone;
 
 // A run of fewer requests puts each alone, and gathers nothing for all persons.
 const FEW: usize = 8;
@@ -96,7 +96,7 @@ pub fn run(t: Tables, h: &mut [u8], levels: &mut [u8], requests: &[u8], answers:
     if number != numbers::GRANTED {
         return no_run(number);
     }
-    let extent = running::extent_of(requests);
+    let extent = putting::extent_of(requests);
     if answers.len() < extent.due {
         return no_run(numbers::TOO_FEW_ANSWERS);
     }

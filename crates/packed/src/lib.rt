@@ -1,5 +1,5 @@
 // The tables as one array of numbers, which is lent and never copied: so the part of the reads in a level that a history gives takes them
-// (crate `past`, levels, and the timed test). No call packs its tables. Places: 0 to 127 the folders, 128 to 191 the persons' levels, 192
+// (crate `recorded`, and the timed test). No call packs its tables. Places: 0 to 127 the folders, 128 to 191 the persons' levels, 192
 // to 255 the firms, 256 to 287 the rights of the roles, 288 to 303 the steps, 304 the mask, 305 the set of the declared persons, 306 that
 // of the declared roles.
 ghost use mathlib.Core.Path.{_≡_};

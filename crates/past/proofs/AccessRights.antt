@@ -17,12 +17,13 @@ use Rattle.policy.specs.Rulebook.{given}
 use Rattle.policy.specs.Request.{Request, read, write, setOf}
 use Rattle.policy.specs.Rules.{did}
 use Rattle.past.specs.Past.{usedOn, rightsBelow}
-use Rattle.past.specs.Turns.{readAt, writtenAt, rightsAfter, rightsTurn}
-use Rattle.past.specs.Visits.{Leads}
+use Rattle.recorded.specs.Recorded.{readAt, writtenAt}
+use Rattle.past.specs.Turns.{rightsAfter, rightsTurn}
+use Rattle.recorded.specs.Visits.{Leads}
 use Rattle.past.proofs.Gathered.{rights-more}
-use Rattle.past.proofs.Joined.{join-none}
-use Rattle.past.proofs.Recorded.{entry-below, did-read, did-write}
-use Rattle.past.proofs.VisitLaws.{visit-start, visit-alike}
+use Rattle.recorded.proofs.Joined.{join-none}
+use Rattle.recorded.proofs.Recorded.{entry-below, did-read, did-write}
+use Rattle.recorded.proofs.VisitLaws.{visit-start, visit-alike}
 
 pub rights-start : (t : Tables) (H : Request → Bool) (s : ℕ) → 0 ≡ rightsBelow t H s 0
 rights-start t H s = join-none 64 (usedOn t H s)

@@ -20,8 +20,9 @@ use Rattle.policy.specs.Request.{Request}
 use Rattle.rules.specs.Sets.{rolesIn}
 use Rattle.past.specs.Found.{Within, FoundOf}
 use Rattle.past.specs.Past.{usedOn, rightsBelow}
-use Rattle.past.specs.Turns.{withBitIf, rightsAfter, rightsTurn}
-use Rattle.past.specs.Visits.{Leads}
+use Rattle.recorded.specs.Recorded.{withBitIf}
+use Rattle.past.specs.Turns.{rightsAfter, rightsTurn}
+use Rattle.recorded.specs.Visits.{Leads}
 
 -- ---- sets within sets
 

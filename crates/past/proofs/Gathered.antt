@@ -21,25 +21,14 @@ use Rattle.policy.specs.Rulebook.{given}
 use Rattle.policy.specs.Request.{Request, read, write, start, step, setOf}
 use Rattle.policy.specs.Rules.{right, someRequest, firmOfSome, did, accessed, opened, used}
 use Rattle.past.specs.declared.Past.{Past}
-use Rattle.past.specs.Gathering.{appliedOn, appliedAt}
+use Rattle.recorded.specs.Gathering.{appliedOn, appliedAt}
 use Rattle.past.specs.Past.{usedOn, firmOn, firmsBelow, pastBelow, pastOf}
-use Rattle.past.specs.Turns.{
-  withBitIf,
-  readAt,
-  writtenAt,
-  stepAt,
-  steppedAt,
-  touchedAt,
-  pastWith,
-  pastAfter,
-  pastTurn,
-  started,
-  rightsWith,
-}
-use Rattle.past.specs.Visits.{Leads}
-use Rattle.past.proofs.VisitLaws.{visit-start, visit-alike}
-use Rattle.past.proofs.Joined.{join-none}
-use Rattle.past.proofs.Recorded.{
+use Rattle.recorded.specs.Recorded.{withBitIf, readAt, writtenAt, stepAt, steppedAt, touchedAt, started}
+use Rattle.past.specs.Turns.{pastWith, pastAfter, pastTurn, rightsWith}
+use Rattle.recorded.specs.Visits.{Leads}
+use Rattle.recorded.proofs.VisitLaws.{visit-start, visit-alike}
+use Rattle.recorded.proofs.Joined.{join-none}
+use Rattle.recorded.proofs.Recorded.{
   entry-below,
   any-and,
   did-read,

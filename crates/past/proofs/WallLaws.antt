@@ -31,9 +31,9 @@ use Rattle.policy.specs.Request.{setOf}
 use Rattle.policy.specs.Rules.{counts, counted, otherClass, wallAccess}
 use Rattle.policy.proofs.Accesses.{firm-some, some-firm}
 use Rattle.policy.proofs.GivenEntries.{given-entries, folder-cases}
-use Rattle.past.specs.Turns.{touchedAt}
+use Rattle.recorded.specs.Recorded.{touchedAt}
 use Rattle.past.specs.Wall.{bears, bearsAt, ownAt, Searched}
-use Rattle.past.proofs.Recorded.{undeclared, touched-access}
+use Rattle.recorded.proofs.Recorded.{undeclared, touched-access}
 
 -- every folder's firm is in range: an undeclared folder's is 0
 pub any-firm-below : (t : Tables) → given t ≡ true → (o : ℕ) → o < 128 → folderAt t o .firm < 64

@@ -9,7 +9,7 @@ use Rattle.policy.specs.declared.Firm.{Firm}
 use Rattle.policy.specs.declared.Folder.{Folder}
 use Rattle.policy.specs.declared.Tables.{Tables}
 use Rattle.policy.specs.Tables.{firmAt, folderAt}
-use Rattle.past.specs.Turns.{touchedAt}
+use Rattle.recorded.specs.Recorded.{touchedAt}
 
 -- folder o, whose entry is e and whose firm's entry is f, bears on an access in a class by person s
 unfoldable pub bears : Folder → Firm → ℕ → List ℕ → ℕ → ℕ → Bool

@@ -1,10 +1,9 @@
 // What a person did: the rights used and the firms opened. The pass visits the folders that the person read, wrote in or stepped on, and no
-// others. `steps` finds the persons who stepped on each folder, and the folders on which one person did; `applied` finds the steps that a
-// person applied. `wall` and `rights` find what the wall and the roles ask about for one request alone, and the current level is apart, in
-// `levels`. Each public function is called for a declared person, over tables that a load gives and a history of 18,944 bytes. Indexes of
-// bits (document 01, "History"), for person s: 128 * s + o for a read of folder o, 8192 more for a write, 16384 + 64 * s + u for a start of
-// person u, 20480 + 64 * (16 * o + p) + s for step p on folder o. Rights: the folder's kind for a read, 16 + kind for a write, 32 for a
-// start, 48 + p for step p.
+// others; who stepped where, and by which steps, is found in the crate `recorded`. `wall` and `rights` find what the wall and the roles ask
+// about for one request alone. Each public function is called for a declared person, over tables that a load gives and a history of 18,944
+// bytes. Indexes of bits (document 01, "History"), for person s: 128 * s + o for a read of folder o, 8192 more for a write, 16384 + 64 * s
+// + u for a start of person u, 20480 + 64 * (16 * o + p) + s for step p on folder o. Rights: the folder's kind for a read, 16 + kind for a
+// write, 32 for a start, 48 + p for step p.
 ghost use mathlib.Core.Path.{_≡_};
 ghost use mathlib.Core.Bool.{true};
 ghost use Prim.Native.Nat.{_+_, _%_, _≤_, _<_};
@@ -14,24 +13,19 @@ ghost use Rattle.policy.specs.Tables.{personDeclared};
 ghost use Rattle.policy.specs.Rulebook.{given};
 ghost use Rattle.policy.specs.History.{historyBytes};
 ghost use Rattle.policy.specs.Request.{setOf};
-ghost use Rattle.past.specs.Folders.{foldersOf};
-ghost use Rattle.past.specs.Gathering.{appliedAt};
+ghost use Rattle.recorded.specs.Folders.{foldersOf};
+ghost use Rattle.recorded.specs.Gathering.{appliedAt};
 ghost use Rattle.past.specs.Past.{pastBelow, pastOf};
-ghost use Rattle.past.specs.Turns.{EntryInBounds, steppedAt, pastWith, pastVisiting, started, rightsWith};
+ghost use Rattle.recorded.specs.Recorded.{EntryInBounds, steppedAt, started};
+ghost use Rattle.past.specs.Turns.{pastWith, pastVisiting, rightsWith};
 use policy::Folder;
 use policy::Tables;
+use recorded::Folders;
+use recorded::applied;
+use recorded::steps;
 
-pub mod applied;
-pub mod levels;
 pub mod rights;
-pub mod steps;
 pub mod wall;
-
-// A set of folders: bit i of `low` for folder i, and bit i of `high` for folder 64 + i.
-pub struct Folders {
-    pub low: u64,
-    pub high: u64,
-}
 
 // The set of the rights used and the set of the firms opened: bit k for number k.
 pub struct Past {

@@ -12,7 +12,8 @@ ghost use Rattle.policy.specs.Request.{setOf};
 ghost use Rattle.rules.specs.Sets.{rolesIn};
 ghost use Rattle.past.specs.Found.{FoundOf};
 ghost use Rattle.past.specs.Past.{rightsBelow};
-ghost use Rattle.past.specs.Turns.{EntryInBounds, rightsAfter, rightsVisiting};
+ghost use Rattle.recorded.specs.Recorded.{EntryInBounds};
+ghost use Rattle.past.specs.Turns.{rightsAfter, rightsVisiting};
 use policy::Folder;
 use policy::Tables;
 

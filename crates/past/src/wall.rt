@@ -7,12 +7,12 @@ ghost use Rattle.policy.specs.Rulebook.{given};
 ghost use Rattle.policy.specs.History.{historyBytes};
 ghost use Rattle.policy.specs.Request.{setOf};
 ghost use Rattle.policy.specs.Rules.{wallAccess};
-ghost use Rattle.past.specs.Turns.{InBounds, touchedAt};
+ghost use Rattle.recorded.specs.Recorded.{InBounds, touchedAt};
 ghost use Rattle.past.specs.Wall.{bears};
-use crate::steps;
 use policy::Firm;
 use policy::Folder;
 use policy::Tables;
+use recorded::steps;
 
 // Whether person s read folder o, wrote in it or stepped on it.
 fn is_touched(h: &[u8], s: usize, o: usize) -> bool

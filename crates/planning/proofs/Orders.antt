@@ -19,8 +19,8 @@ use Rattle.policy.specs.Plans.{jobsOf, jobsAt, allPlannable}
 use Rattle.policy.proofs.JobOrders.{permuted-below}
 use Rattle.precedence.specs.Precedence.{lowersLevel, isStep, jobLevel, levelsPermit, stepsPermit, mayPrecede, Ordered}
 use Rattle.sorting.specs.Sorting.{blocked, InOrder, Sorts}
-use Rattle.planning.specs.declared.pairs.Side.{Side}
-use Rattle.planning.specs.Pairs.{sideBy, sideOf, levelsPass, stepsPass, precedes, jobAt, SidesOf, RowsOf}
+use Rattle.listed.specs.declared.pairs.Side.{Side}
+use Rattle.listed.specs.Pairs.{sideBy, sideOf, levelsPass, stepsPass, precedes, jobAt, SidesOf, RowsOf}
 use Rattle.planning.specs.Planning.{OrderOf}
 use Rattle.planning.proofs.PlannableLaws.{planned, folder-below, step-below, planned-at}
 

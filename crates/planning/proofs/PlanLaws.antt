@@ -22,8 +22,8 @@ use Rattle.policy.proofs.JobOrders.{count-placed, permuted-jobs, order-below}
 use Rattle.policy.proofs.Planning.{planning, refused-answer}
 use Rattle.precedence.specs.Precedence.{Stuck}
 use Rattle.precedence.proofs.Precedence.{precedence}
-use Rattle.judging.specs.Judging.{Ready}
-use Rattle.planning.specs.Records.{PlacesBelow, GrantedBy}
+use Rattle.questions.specs.Judging.{Ready}
+use Rattle.listed.specs.Records.{PlacesBelow, GrantedBy}
 use Rattle.planning.specs.Planning.{noPlan, OrderedBy}
 
 module _ (t : Tables) (jobs : List Job) where

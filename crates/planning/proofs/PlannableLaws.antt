@@ -17,10 +17,10 @@ use Rattle.policy.specs.Tables.{personAt, folderAt, personDeclared, folderDecla
 use Rattle.policy.specs.Request.{two, three, requestOf}
 use Rattle.policy.specs.Rules.{declared}
 use Rattle.policy.specs.Plans.{noJob, jobsOf, jobRecord, jobsAt, noStart, plannable, allPlannable}
-use Rattle.judging.proofs.AskingLaws.{same-person, same-folder}
-use Rattle.planning.specs.Pairs.{jobAt}
+use Rattle.questions.proofs.AskingLaws.{same-person, same-folder}
+use Rattle.listed.specs.Pairs.{jobAt}
 use Rattle.planning.specs.Planning.{plannedAction, plannableBy}
-use Rattle.planning.proofs.JobBytes.{fourAt, job-at, jobs-length}
+use Rattle.listed.proofs.JobBytes.{fourAt, job-at, jobs-length}
 
 -- a job's record can be planned
 abbrev pub planned : Tables → Job → Bool

@@ -42,10 +42,10 @@ use Rattle.policy.specs.Agreement.{Throughout}
 use Rattle.policy.specs.Plans.{jobsOf, jobRecord, plannable, allPlannable, records, jobsAt}
 use Rattle.policy.proofs.CallChecks.{Ready, ready-then}
 use Rattle.request.specs.Parsed.{nextAfter, nextRecord}
-use Rattle.running.proofs.Records.{calls-none, calls-more}
+use Rattle.putting.proofs.Records.{calls-none, calls-more}
 use Rattle.loaded.specs.Refused.{RunIs}
-use Rattle.planning.specs.Records.{joined, PlacesBelow, requestsBy}
-use Rattle.planning.proofs.JobBytes.{jobs-length}
+use Rattle.listed.specs.Records.{joined, PlacesBelow, requestsBy}
+use Rattle.listed.proofs.JobBytes.{jobs-length}
 use Rattle.planning.proofs.PlannableLaws.{planned, by-action, planned-order}
 
 -- ---- a run that refuses nothing

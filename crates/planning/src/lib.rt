@@ -9,8 +9,9 @@ ghost use lib.ListN.{length};
 ghost use Rattle.policy.specs.Rulebook.{given};
 ghost use Rattle.policy.specs.Calls.{state};
 ghost use Rattle.policy.specs.Plans.{jobsOf, allPlannable, IsPlan};
-ghost use Rattle.judging.specs.Judging.{Ready};
+ghost use Rattle.questions.specs.Judging.{Ready};
 ghost use Rattle.planning.specs.Planning.{plannedAction, plannableBy, noPlan, OrderOf};
+use listed::pairs;
 use policy::Folder;
 use policy::Person;
 use policy::Plan;
@@ -18,8 +19,6 @@ use policy::Tables;
 use policy::numbers;
 use sorting::Order;
 
-pub mod pairs;
-mod records;
 mod trial;
 
 // A refused plan.

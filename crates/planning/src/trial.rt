@@ -5,9 +5,9 @@ ghost use Prim.Native.Nat.{_*_, _≤_};
 ghost use lib.ListN.{length};
 ghost use Rattle.policy.specs.Calls.{state};
 ghost use Rattle.policy.specs.Plans.{jobsOf, allPlannable};
-ghost use Rattle.judging.specs.Judging.{Ready};
-ghost use Rattle.planning.specs.Records.{PlacesBelow, GrantedIn, GrantedBy};
-use crate::records;
+ghost use Rattle.questions.specs.Judging.{Ready};
+ghost use Rattle.listed.specs.Records.{PlacesBelow, GrantedIn, GrantedBy};
+use listed::records;
 use policy::Tables;
 
 // Copies bytes.

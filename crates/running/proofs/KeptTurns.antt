@@ -17,15 +17,16 @@ use Rattle.policy.specs.Levels.{levelAt}
 use Rattle.policy.specs.Calls.{State, state, recordedIf, answersDue}
 use Rattle.request.specs.declared.Parsed.{Parsed}
 use Rattle.request.specs.Parsed.{asRequest, ParsedFrom}
-use Rattle.judging.specs.Judging.{Ready, numberFor}
+use Rattle.questions.specs.Judging.{Ready, numberFor}
 use Rattle.rules.specs.Sets.{firmsOf}
 use Rattle.rules.specs.Kept.{HasHolders}
-use Rattle.keeping.specs.Kinds.{askedBy}
+use Rattle.branchfree.specs.Kinds.{askedBy}
 use Rattle.keeping.specs.Keeping.{Keeps, Serves, PutKept, Sized, Kept as Keeping}
-use Rattle.keeping.proofs.KindLaws.{asked-is}
-use Rattle.running.specs.Running.{Begun, Kept}
-use Rattle.running.proofs.Records.{next-at-within, next-at-further, due-at}
-use Rattle.running.proofs.Turns.{as-turned, done-none, done-due, done-more}
+use Rattle.branchfree.proofs.KindLaws.{asked-is}
+use Rattle.putting.specs.Running.{Begun}
+use Rattle.running.specs.Kept.{Kept}
+use Rattle.putting.proofs.Records.{next-at-within, next-at-further, due-at}
+use Rattle.putting.proofs.Turns.{as-turned, done-none, done-due, done-more}
 
 pub kept-none : {t : Tables} {h l requests answers : List ℕ} {k : Keeping} → Ready t h l → Keeps t (setOf h) l k
     → Kept t (state h l) requests answers 0 0 0 h answers k

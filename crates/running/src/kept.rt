@@ -8,13 +8,14 @@ ghost use Rattle.policy.specs.Request.{setOf};
 ghost use Rattle.policy.specs.Calls.{state, answersDue};
 ghost use Rattle.rules.specs.Sets.{HasClasses};
 ghost use Rattle.rules.specs.Kept.{HasHolders};
-ghost use Rattle.judging.specs.Judging.{Ready};
+ghost use Rattle.questions.specs.Judging.{Ready};
 ghost use Rattle.keeping.specs.Keeping.{kept, Keeps};
-ghost use Rattle.running.specs.Running.{wholeEnd, Begun, Kept};
-use crate::Progress;
-use keeping::checks;
-use keeping::kinds;
+ghost use Rattle.putting.specs.Running.{wholeEnd, Begun};
+ghost use Rattle.running.specs.Kept.{Kept};
+use branchfree::checks;
+use branchfree::kinds;
 use policy::Tables;
+use putting::Progress;
 
 // Puts the requests one after another, each on the history and the sets that the one before it leaves, and writes their numbers, up to
 // where the whole records end, so that one answer is left at most.
@@ -76,7 +77,7 @@ fn run_by(
         );
         answers[answered] = number;
         answered += 1;
-        granted += crate::granted_by(number);
+        granted += putting::granted_by(number);
     }
     Progress {
         at,

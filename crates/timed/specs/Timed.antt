@@ -6,8 +6,8 @@ use lib.Dec.{eqb, ltb}
 use lib.ListN.{length}
 use Rattle.policy.specs.History.{historyBytes}
 use Rattle.packed.specs.Packed.{tablesOf}
-use Rattle.past.specs.Turns.{readAt}
-use Rattle.past.specs.Levels.{levelBy}
+use Rattle.recorded.specs.Recorded.{readAt}
+use Rattle.recorded.specs.Levels.{levelBy}
 
 -- the level after the folders that the person's sixteen bytes name, from the level before; without such bytes it stays
 unfoldable pub levelByReads : List ℕ → List ℕ → ℕ → ℕ → ℕ

@@ -22,6 +22,6 @@ pub extern "C" fn timed_level_by_reads(
     if person >= 64 {
         return before;
     }
-    let level = past::levels::level_by_reads(tables, history, person, Level(before));
+    let level = recorded::levels::level_by_reads(tables, history, person, Level(before));
     level.0
 }

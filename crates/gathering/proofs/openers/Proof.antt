@@ -1,5 +1,5 @@
 -- `openers` joins the words of the low half of the folders to empty sets, and then those of the high half.
-use Rattle.gathering.proofs.FolderWords.{touched-in}
+use Rattle.grouping.proofs.FolderWords.{touched-in}
 use Rattle.gathering.proofs.UserLaws.{sets-are}
 use borrow.Author.Needs.{needs}
 use Rattle.gathering.proofs.openers.Statement.{statement}

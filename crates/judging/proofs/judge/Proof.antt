@@ -19,12 +19,12 @@ use Rattle.policy.proofs.Requests.{person-below, folder-below}
 use Rattle.pipeline.proofs.StepLaws.{done-set, pipeline-in}
 use Rattle.request.specs.declared.Parsed.{Parsed}
 use Rattle.request.specs.Parsed.{asRequest}
-use Rattle.judging.specs.declared.question.Question.{Question}
-use Rattle.judging.specs.Posing.{Posed}
-use Rattle.judging.proofs.AskingLaws.{asked-in-range}
-use Rattle.judging.proofs.JudgingLaws.{implies-true, request-number}
-use Rattle.judging.proofs.Deciding.{first-refuses, then-roles, then-step, then-granted}
-use Rattle.judging.proofs.Posings.{known-number, known-request}
+use Rattle.questions.specs.declared.question.Question.{Question}
+use Rattle.questions.specs.Posing.{Posed}
+use Rattle.questions.proofs.AskingLaws.{asked-in-range}
+use Rattle.questions.proofs.JudgingLaws.{implies-true, request-number}
+use Rattle.questions.proofs.Deciding.{first-refuses, then-roles, then-step, then-granted}
+use Rattle.questions.proofs.Posings.{known-number, known-request}
 use Rattle.judging.proofs.judge.Statement.{statement}
 use Rattle.judging.proofs.judge.Tie as tie
 

@@ -4,16 +4,16 @@ use borrow.Author.Needs.{needs}
 use mathlib.Core.Path.{ap, _∙_}
 use mathlib.Core.Bool.{_&&_}
 use lib.ListN.{set}
-use Rattle.keeping.specs.Kinds.{lowers, isStep}
-use Rattle.keeping.proofs.UpdateLaws.{masked-one, masked-all}
+use Rattle.branchfree.specs.Kinds.{lowers, isStep}
+use Rattle.branchfree.proofs.UpdateLaws.{masked-one, masked-all}
 use Rattle.keeping.proofs.change.Statement.{statement}
 use Rattle.keeping.proofs.change.Tie as tie
 use Rattle.keeping.proofs.change.Reads as reads
 use Rattle.keeping.proofs.change.Lts as lts
 use Rattle.keeping.proofs.keep.Reads as keep-reads
-use Rattle.keeping.proofs.kinds.row.Reads as row-reads
-use Rattle.keeping.proofs.updates.narrowed.Reads as narrowed-reads
-use Rattle.keeping.proofs.updates.set_bit.Reads as set-bit-reads
+use Rattle.branchfree.proofs.kinds.row.Reads as row-reads
+use Rattle.branchfree.proofs.updates.narrowed.Reads as narrowed-reads
+use Rattle.branchfree.proofs.updates.set_bit.Reads as set-bit-reads
 
 set-bit-requires : tie.Need-set-bit-requires
 set-bit-requires c κs = search needs

@@ -4,9 +4,9 @@ use Rattle.keeping.proofs.keep.Statement.{statement}
 use Rattle.keeping.proofs.keep.Tie as tie
 use Rattle.keeping.proofs.keep.Reads as reads
 use Rattle.keeping.proofs.keep.Lts as lts
-use Rattle.keeping.proofs.updates.keep_firm.Reads as keep-firm-reads
-use Rattle.keeping.proofs.updates.keep_roles.Reads as keep-roles-reads
-use Rattle.keeping.proofs.updates.keep_step.Reads as keep-step-reads
+use Rattle.branchfree.proofs.updates.keep_firm.Reads as keep-firm-reads
+use Rattle.branchfree.proofs.updates.keep_roles.Reads as keep-roles-reads
+use Rattle.branchfree.proofs.updates.keep_step.Reads as keep-step-reads
 
 keep-firm-requires : tie.Need-keep-firm-requires
 keep-firm-requires c κs = search needs

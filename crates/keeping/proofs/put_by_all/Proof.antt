@@ -4,9 +4,9 @@ use Prim.Native.Nat.{_<_}
 use native.Mathlib.Omega.{arith}
 use mathlib.Core.Path.{_≡_, refl, _∙_}
 use mathlib.Core.Bool.{_&&_}
-use Rattle.keeping.specs.Kinds.{askedBy, isAccess}
+use Rattle.branchfree.specs.Kinds.{askedBy, isAccess}
 use Rattle.keeping.specs.Keeping.{kept}
-use Rattle.keeping.proofs.KindLaws.{row-of}
+use Rattle.branchfree.proofs.KindLaws.{row-of}
 use Rattle.keeping.proofs.Puts.{placed-at, found-at, right-in}
 use Rattle.keeping.proofs.put_by_all.Statement.{statement}
 use Rattle.keeping.proofs.put_by_all.Tie as tie
@@ -14,11 +14,11 @@ use Rattle.keeping.proofs.put_by_all.Reads as reads
 use Rattle.keeping.proofs.put_by_all.Lts as lts
 use Rattle.bits.proofs.wide.Reads as wide-reads
 use Rattle.keeping.proofs.change.Reads as change-reads
-use Rattle.keeping.proofs.checks.counts.Reads as counts-reads
-use Rattle.keeping.proofs.judge.Reads as judge-reads
-use Rattle.keeping.proofs.kinds.place.Reads as place-reads
-use Rattle.keeping.proofs.kinds.right.Reads as right-reads
-use Rattle.keeping.proofs.kinds.row.Reads as row-reads
+use Rattle.branchfree.proofs.checks.counts.Reads as counts-reads
+use Rattle.branchfree.proofs.first.judge.Reads as judge-reads
+use Rattle.branchfree.proofs.kinds.place.Reads as place-reads
+use Rattle.branchfree.proofs.kinds.right.Reads as right-reads
+use Rattle.branchfree.proofs.kinds.row.Reads as row-reads
 
 place-requires : tie.Need-place-requires
 place-requires c κs = search needs

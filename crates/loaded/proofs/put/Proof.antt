@@ -1,4 +1,4 @@
--- `put` is `judgeNumber` and leaves `putState`: nothing changes where `lengths` refuses, and otherwise `running` says both.
+-- `put` is `judgeNumber` and leaves `putState`: nothing changes where `lengths` refuses, and otherwise `putting` says both.
 use mathlib.Core.Path.{sym, _∙_}
 use Rattle.loaded.proofs.CallLaws.{passed-ready, judge-refused, put-refused}
 use borrow.Author.Needs.{needs}

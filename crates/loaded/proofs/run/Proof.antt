@@ -9,7 +9,7 @@ use Rattle.loaded.proofs.run.Reads as reads
 use Rattle.loaded.proofs.run.Lts as lts
 use Rattle.loaded.proofs.lengths.Reads as lengths-reads
 use Rattle.loaded.proofs.no_run.Reads as no-run-reads
-use Rattle.running.proofs.extent_of.Reads as extent-of-reads
+use Rattle.putting.proofs.extent_of.Reads as extent-of-reads
 use Rattle.running.proofs.run.Reads as run-reads
 
 lengths-requires : tie.Need-lengths-requires

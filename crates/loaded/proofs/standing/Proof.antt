@@ -8,7 +8,7 @@ use Rattle.policy.specs.Request.{setOf}
 use Rattle.policy.specs.Levels.{levelAt}
 use Rattle.policy.proofs.Requests.{person-below}
 use Rattle.past.specs.Past.{pastOf}
-use Rattle.judging.proofs.AskingLaws.{same-person}
+use Rattle.questions.proofs.AskingLaws.{same-person}
 use Rattle.loaded.proofs.CallLaws.{passed-ready, standing-refused, standing-undeclared, standing-is}
 use borrow.Author.Needs.{needs}
 use Rattle.loaded.proofs.standing.Statement.{statement}

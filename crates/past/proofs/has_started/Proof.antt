@@ -6,7 +6,7 @@ use mathlib.Core.Path.{_∙_, ap}
 use lib.Bits.{bitAnd}
 use lib.Dec.{eqb}
 use borrow.Author.Needs.{needs}
-use Rattle.past.proofs.Recorded.{starts-word}
+use Rattle.recorded.proofs.Recorded.{starts-word}
 use Rattle.past.proofs.has_started.Statement.{statement}
 use Rattle.past.proofs.has_started.Tie as tie
 

@@ -8,7 +8,7 @@ use borrow.Author.Needs.{needs}
 use Rattle.bits.specs.Bits.{maskBelow}
 use Rattle.bits.proofs.Masks.{mask-lt}
 use Rattle.policy.specs.Tables.{personDeclared}
-use Rattle.past.proofs.Recorded.{starts-word}
+use Rattle.recorded.proofs.Recorded.{starts-word}
 use Rattle.past.proofs.has_started_declared.Statement.{statement}
 use Rattle.past.proofs.has_started_declared.Tie as tie
 

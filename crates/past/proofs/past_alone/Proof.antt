@@ -1,17 +1,17 @@
 -- `past_alone` finds the folders that the person stepped on and the steps applied, and then what the person did.
 use mathlib.Core.Path.{_∙_}
 use Rattle.policy.proofs.Requests.{person-below}
-use Rattle.past.proofs.GatheringLaws.{stepped-among}
+use Rattle.recorded.proofs.GatheringLaws.{stepped-among}
 use borrow.Author.Needs.{needs}
 use Rattle.past.proofs.past_alone.Statement.{statement}
 use Rattle.past.proofs.past_alone.Tie as tie
 use Rattle.past.proofs.past_alone.Reads as reads
 use Rattle.past.proofs.past_alone.Lts as lts
-use Rattle.past.proofs.applied.applied_by.Reads as applied-by-reads
+use Rattle.recorded.proofs.applied.applied_by.Reads as applied-by-reads
 use Rattle.past.proofs.past_of.Reads as past-of-reads
 use Rattle.past.proofs.persons.Reads as persons-reads
-use Rattle.past.proofs.steps.all_steppers.Reads as all-steppers-reads
-use Rattle.past.proofs.steps.stepped_by.Reads as stepped-by-reads
+use Rattle.recorded.proofs.steps.all_steppers.Reads as all-steppers-reads
+use Rattle.recorded.proofs.steps.stepped_by.Reads as stepped-by-reads
 
 all-steppers-requires : tie.Need-all-steppers-requires
 all-steppers-requires c κs = search needs

@@ -11,10 +11,11 @@ use Rattle.policy.specs.Tables.{personDeclared}
 use Rattle.policy.specs.Request.{setOf}
 use Rattle.policy.proofs.Requests.{person-below}
 use Rattle.past.specs.declared.Past.{Past}
-use Rattle.past.specs.Gathering.{appliedAt}
+use Rattle.recorded.specs.Gathering.{appliedAt}
 use Rattle.past.specs.Past.{pastBelow, pastOf}
-use Rattle.past.specs.Turns.{steppedAt, started, rightsWith}
-use Rattle.past.proofs.FolderSets.{folders-low, folders-high}
+use Rattle.recorded.specs.Recorded.{steppedAt, started}
+use Rattle.past.specs.Turns.{rightsWith}
+use Rattle.recorded.proofs.FolderSets.{folders-low, folders-high}
 use Rattle.past.proofs.Gathered.{past-start, past-whole}
 use Rattle.past.proofs.past_of.Statement.{statement}
 use Rattle.past.proofs.past_of.Tie as tie

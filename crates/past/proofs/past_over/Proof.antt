@@ -17,11 +17,12 @@ use Rattle.policy.proofs.Requests.{person-below}
 use Rattle.history.specs.Words.{wordAt}
 use Rattle.past.specs.declared.Past.{Past}
 use Rattle.past.specs.Past.{pastBelow}
-use Rattle.past.specs.Turns.{steppedAt, pastTurn, pastVisiting}
-use Rattle.past.specs.Visits.{Leads}
+use Rattle.recorded.specs.Recorded.{steppedAt}
+use Rattle.past.specs.Turns.{pastTurn, pastVisiting}
+use Rattle.recorded.specs.Visits.{Leads}
 use Rattle.past.proofs.Gathered.{past-half}
-use Rattle.past.proofs.Recorded.{word-reads, word-writes}
-use Rattle.past.proofs.VisitLaws.{visit-end}
+use Rattle.recorded.proofs.Recorded.{word-reads, word-writes}
+use Rattle.recorded.proofs.VisitLaws.{visit-end}
 use Rattle.past.proofs.past_over.Statement.{statement}
 use Rattle.past.proofs.past_over.Tie as tie
 

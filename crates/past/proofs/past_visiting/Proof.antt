@@ -4,9 +4,9 @@ use native.Mathlib.Omega.{arith}
 use mathlib.Core.Path.{_≡_, refl, _∙_}
 use borrow.Author.Needs.{needs}
 use Rattle.past.specs.Turns.{pastTurn, pastVisiting}
-use Rattle.past.specs.Visits.{Leads}
-use Rattle.past.proofs.Recorded.{entry-below}
-use Rattle.past.proofs.VisitLaws.{visited-lt, visit-less, visit-next, visit-end}
+use Rattle.recorded.specs.Visits.{Leads}
+use Rattle.recorded.proofs.Recorded.{entry-below}
+use Rattle.recorded.proofs.VisitLaws.{visited-lt, visit-less, visit-next, visit-end}
 use Rattle.past.proofs.past_visiting.Statement.{statement}
 use Rattle.past.proofs.past_visiting.Tie as tie
 

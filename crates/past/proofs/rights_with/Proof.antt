@@ -6,7 +6,8 @@ use lib.Bits.{bitOr}
 use lib.Dec.{lit≤}
 use lib.Pow.{shl-exact}
 use borrow.Author.Needs.{needs}
-use Rattle.past.specs.Turns.{withBitIf, rightsWith}
+use Rattle.recorded.specs.Recorded.{withBitIf}
+use Rattle.past.specs.Turns.{rightsWith}
 use Rattle.past.proofs.rights_with.Statement.{statement}
 use Rattle.past.proofs.rights_with.Tie as tie
 

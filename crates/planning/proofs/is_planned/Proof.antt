@@ -7,7 +7,7 @@ use Rattle.planning.proofs.is_planned.Tie as tie
 use Rattle.planning.proofs.is_planned.Reads as reads
 use Rattle.planning.proofs.is_planned.Lts as lts
 use Rattle.bits.proofs.both.Reads as both-reads
-use Rattle.planning.proofs.pairs.is_either.Reads as is-either-reads
+use Rattle.listed.proofs.pairs.is_either.Reads as is-either-reads
 
 is-either-requires : tie.Need-is-either-requires
 is-either-requires c κs = search needs

@@ -1,13 +1,13 @@
 -- `order` sorts by the rows of what was looked up about the jobs.
-use Rattle.planning.proofs.JobBytes.{jobs-length}
+use Rattle.listed.proofs.JobBytes.{jobs-length}
 use Rattle.planning.proofs.Orders.{sorted-jobs}
 use borrow.Author.Needs.{needs}
 use Rattle.planning.proofs.order.Statement.{statement}
 use Rattle.planning.proofs.order.Tie as tie
 use Rattle.planning.proofs.order.Reads as reads
 use Rattle.planning.proofs.order.Lts as lts
-use Rattle.planning.proofs.pairs.rows.Reads as rows-reads
-use Rattle.planning.proofs.pairs.sides.Reads as sides-reads
+use Rattle.listed.proofs.pairs.rows.Reads as rows-reads
+use Rattle.listed.proofs.pairs.sides.Reads as sides-reads
 use Rattle.sorting.proofs.sort.Reads as sort-reads
 
 sides-requires : tie.Need-sides-requires

@@ -1,7 +1,7 @@
 -- `plan_sorted` hands back an order that was tried, and otherwise has none: jobs keep each other back, or the trial was refused.
 use borrow.Author.Tests.{not-true, not-false}
 use Rattle.policy.specs.Calls.{state}
-use Rattle.planning.proofs.JobBytes.{jobs-length}
+use Rattle.listed.proofs.JobBytes.{jobs-length}
 use Rattle.planning.proofs.PlanLaws.{kept-back, places-below, granted-plan, refused-plan}
 use borrow.Author.Needs.{needs}
 use Rattle.planning.proofs.plan_sorted.Statement.{statement}

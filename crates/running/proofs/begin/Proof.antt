@@ -2,7 +2,7 @@
 use borrow.Author.Needs.{needs}
 use native.Mathlib.Omega.{arith}
 use mathlib.Core.Path.{refl}
-use Rattle.running.proofs.Turns.{done-none}
+use Rattle.putting.proofs.Turns.{done-none}
 use Rattle.running.proofs.begin.Statement.{statement}
 use Rattle.running.proofs.begin.Tie as tie
 use Rattle.running.proofs.begin.Reads as reads

@@ -3,12 +3,12 @@ use borrow.Author.Needs.{needs}
 use native.Mathlib.Omega.{arith}
 use mathlib.Core.Path.{sym}
 use Rattle.policy.specs.Calls.{state}
-use Rattle.running.proofs.Turns.{done-room}
+use Rattle.putting.proofs.Turns.{done-room}
 use Rattle.running.proofs.run.Statement.{statement}
 use Rattle.running.proofs.run.Tie as tie
 use Rattle.running.proofs.run.Reads as reads
 use Rattle.running.proofs.run.Lts as lts
-use Rattle.running.proofs.alone.run_from.Reads as run-from-reads
+use Rattle.putting.proofs.alone.run_from.Reads as run-from-reads
 use Rattle.running.proofs.begin.Reads as begin-reads
 
 begin-requires : tie.Need-begin-requires

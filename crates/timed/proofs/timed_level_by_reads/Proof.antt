@@ -1,4 +1,4 @@
--- `timed_level_by_reads` is `past`'s function of the reads; a history of another length and a number above 63 are refused before it.
+-- `timed_level_by_reads` is `recorded`'s function of the reads; a history of another length and a number above 63 are refused before it.
 use native.Mathlib.Omega.{arith}
 use borrow.Author.Needs.{needs}
 use borrow.Author.Tests.{eq-eqb, ne-eqb, lt-ltb, le-ltb}
@@ -7,7 +7,7 @@ use Rattle.timed.proofs.timed_level_by_reads.Statement.{statement}
 use Rattle.timed.proofs.timed_level_by_reads.Tie as tie
 use Rattle.timed.proofs.timed_level_by_reads.Reads as reads
 use Rattle.timed.proofs.timed_level_by_reads.Lts as lts
-use Rattle.past.proofs.levels.level_by_reads.Reads as level-by-reads-reads
+use Rattle.recorded.proofs.levels.level_by_reads.Reads as level-by-reads-reads
 
 returns : tie.Need-returns
 unfolding levelByReads

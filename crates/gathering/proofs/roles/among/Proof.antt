@@ -2,8 +2,8 @@
 use native.Mathlib.Omega.{arith}
 use mathlib.Core.Path.{refl}
 use Rattle.bits.specs.Bits.{foldSet}
-use Rattle.past.specs.Visits.{Leads}
-use Rattle.past.proofs.VisitLaws.{visited-lt, visit-less, visit-next, visit-end}
+use Rattle.recorded.specs.Visits.{Leads}
+use Rattle.recorded.proofs.VisitLaws.{visited-lt, visit-less, visit-next, visit-end}
 use Rattle.gathering.specs.Users.{joinSet}
 use Rattle.gathering.proofs.RoleLaws.{among-start, among-is}
 use borrow.Author.Needs.{needs}

@@ -7,27 +7,27 @@ use mathlib.Core.Bool.{cond, not, _&&_}
 use lib.ListN.{getD, set}
 use Rattle.policy.specs.Tables.{wallRule, pipelineRule}
 use Rattle.policy.specs.Request.{hasPlace}
-use Rattle.keeping.specs.Kinds.{askedBy, isAccess, isStep, lowers, asksLevel}
-use Rattle.keeping.specs.Failing.{failingOf}
+use Rattle.branchfree.specs.Kinds.{askedBy, isAccess, isStep, lowers, asksLevel}
+use Rattle.branchfree.specs.Failing.{failingOf}
 use Rattle.keeping.specs.Keeping.{kept}
-use Rattle.keeping.proofs.FailingLaws.{negated}
-use Rattle.keeping.proofs.UpdateLaws.{either-way, masked-all}
+use Rattle.branchfree.proofs.FailingLaws.{negated}
+use Rattle.branchfree.proofs.UpdateLaws.{either-way, masked-all}
 use Rattle.keeping.proofs.FewerLaws.{not-among, roles-alone}
 use Rattle.keeping.proofs.Puts.{placed-at, right-in, found-at}
 use Rattle.keeping.proofs.fewer.put_by_roles.Statement.{statement}
 use Rattle.keeping.proofs.fewer.put_by_roles.Tie as tie
 use Rattle.keeping.proofs.fewer.put_by_roles.Reads as reads
 use Rattle.keeping.proofs.fewer.put_by_roles.Lts as lts
-use Rattle.keeping.proofs.checks.first_check.Reads as first-check-reads
-use Rattle.keeping.proofs.checks.level_check.Reads as level-check-reads
-use Rattle.keeping.proofs.checks.roles_check.Reads as roles-check-reads
-use Rattle.keeping.proofs.checks.unknown_check.Reads as unknown-check-reads
-use Rattle.keeping.proofs.kinds.place.Reads as place-reads
-use Rattle.keeping.proofs.kinds.right.Reads as right-reads
-use Rattle.keeping.proofs.kinds.row.Reads as row-reads
-use Rattle.keeping.proofs.updates.keep_roles.Reads as keep-roles-reads
-use Rattle.keeping.proofs.updates.narrowed.Reads as narrowed-reads
-use Rattle.keeping.proofs.updates.set_bit.Reads as set-bit-reads
+use Rattle.branchfree.proofs.checks.first_check.Reads as first-check-reads
+use Rattle.branchfree.proofs.checks.level_check.Reads as level-check-reads
+use Rattle.branchfree.proofs.checks.roles_check.Reads as roles-check-reads
+use Rattle.branchfree.proofs.checks.unknown_check.Reads as unknown-check-reads
+use Rattle.branchfree.proofs.kinds.place.Reads as place-reads
+use Rattle.branchfree.proofs.kinds.right.Reads as right-reads
+use Rattle.branchfree.proofs.kinds.row.Reads as row-reads
+use Rattle.branchfree.proofs.updates.keep_roles.Reads as keep-roles-reads
+use Rattle.branchfree.proofs.updates.narrowed.Reads as narrowed-reads
+use Rattle.branchfree.proofs.updates.set_bit.Reads as set-bit-reads
 
 place-requires : tie.Need-place-requires
 place-requires c κs = search needs

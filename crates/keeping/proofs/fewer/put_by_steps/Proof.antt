@@ -8,26 +8,26 @@ use lib.ListN.{getD, set}
 use Rattle.bits.specs.Bits.{bit}
 use Rattle.policy.specs.Tables.{wallRule, rolesRule}
 use Rattle.policy.specs.Request.{hasPlace}
-use Rattle.keeping.specs.Kinds.{askedBy, rightBy, isAccess, isStep, lowers, asksLevel}
-use Rattle.keeping.specs.Failing.{failingOf}
+use Rattle.branchfree.specs.Kinds.{askedBy, rightBy, isAccess, isStep, lowers, asksLevel}
+use Rattle.branchfree.specs.Failing.{failingOf}
 use Rattle.keeping.specs.Keeping.{kept}
-use Rattle.keeping.proofs.FailingLaws.{negated, not-in-force}
-use Rattle.keeping.proofs.UpdateLaws.{masked-one, masked-all}
+use Rattle.branchfree.proofs.FailingLaws.{negated, not-in-force}
+use Rattle.branchfree.proofs.UpdateLaws.{masked-one, masked-all}
 use Rattle.keeping.proofs.FewerLaws.{not-among, without-roles}
 use Rattle.keeping.proofs.Puts.{placed-at, found-at}
 use Rattle.keeping.proofs.fewer.put_by_steps.Statement.{statement}
 use Rattle.keeping.proofs.fewer.put_by_steps.Tie as tie
 use Rattle.keeping.proofs.fewer.put_by_steps.Reads as reads
 use Rattle.keeping.proofs.fewer.put_by_steps.Lts as lts
-use Rattle.keeping.proofs.checks.first_check.Reads as first-check-reads
-use Rattle.keeping.proofs.checks.level_check.Reads as level-check-reads
-use Rattle.keeping.proofs.checks.pipeline_check.Reads as pipeline-check-reads
-use Rattle.keeping.proofs.checks.unknown_check.Reads as unknown-check-reads
-use Rattle.keeping.proofs.kinds.place.Reads as place-reads
-use Rattle.keeping.proofs.kinds.row.Reads as row-reads
-use Rattle.keeping.proofs.updates.keep_step.Reads as keep-step-reads
-use Rattle.keeping.proofs.updates.narrowed.Reads as narrowed-reads
-use Rattle.keeping.proofs.updates.set_bit.Reads as set-bit-reads
+use Rattle.branchfree.proofs.checks.first_check.Reads as first-check-reads
+use Rattle.branchfree.proofs.checks.level_check.Reads as level-check-reads
+use Rattle.branchfree.proofs.checks.pipeline_check.Reads as pipeline-check-reads
+use Rattle.branchfree.proofs.checks.unknown_check.Reads as unknown-check-reads
+use Rattle.branchfree.proofs.kinds.place.Reads as place-reads
+use Rattle.branchfree.proofs.kinds.row.Reads as row-reads
+use Rattle.branchfree.proofs.updates.keep_step.Reads as keep-step-reads
+use Rattle.branchfree.proofs.updates.narrowed.Reads as narrowed-reads
+use Rattle.branchfree.proofs.updates.set_bit.Reads as set-bit-reads
 
 place-requires : tie.Need-place-requires
 place-requires c κs = search needs

@@ -12,11 +12,11 @@ use Rattle.policy.proofs.Requests.{person-below}
 use Rattle.past.specs.Found.{FoundOf}
 use Rattle.past.specs.Past.{rightsBelow}
 use Rattle.past.specs.Turns.{rightsTurn, rightsVisiting}
-use Rattle.past.specs.Visits.{Leads}
+use Rattle.recorded.specs.Visits.{Leads}
 use Rattle.past.proofs.AccessRights.{rights-half}
 use Rattle.past.proofs.FoundLaws.{found-held, found-further}
-use Rattle.past.proofs.Recorded.{word-reads, word-writes}
-use Rattle.past.proofs.VisitLaws.{visit-end}
+use Rattle.recorded.proofs.Recorded.{word-reads, word-writes}
+use Rattle.recorded.proofs.VisitLaws.{visit-end}
 use Rattle.past.proofs.rights.rights_over.Statement.{statement}
 use Rattle.past.proofs.rights.rights_over.Tie as tie
 

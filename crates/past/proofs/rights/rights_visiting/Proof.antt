@@ -5,10 +5,10 @@ use native.Mathlib.Omega.{arith}
 use mathlib.Core.Path.{_≡_, refl, sym, _∙_}
 use lib.Bits.{or-lt}
 use Rattle.past.specs.Turns.{rightsTurn, rightsVisiting}
-use Rattle.past.specs.Visits.{Leads}
+use Rattle.recorded.specs.Visits.{Leads}
 use Rattle.past.proofs.FoundLaws.{leads-within, found-whole, found-stopped}
-use Rattle.past.proofs.Recorded.{entry-below}
-use Rattle.past.proofs.VisitLaws.{visited-lt, visit-less, visit-next, visit-end}
+use Rattle.recorded.proofs.Recorded.{entry-below}
+use Rattle.recorded.proofs.VisitLaws.{visited-lt, visit-less, visit-next, visit-end}
 use borrow.Author.Tests.{not-true}
 use borrow.Author.Needs.{needs}
 use Rattle.past.proofs.rights.rights_visiting.Statement.{statement}

@@ -4,7 +4,7 @@ use borrow.Author.Needs.{needs}
 use Rattle.bits.proofs.Booleans.{or-left, or-right}
 use Rattle.bits.proofs.Masks.{mask-test}
 use Rattle.policy.specs.Request.{index}
-use Rattle.past.specs.Turns.{readAt, writtenAt, steppedAt, touchedAt}
+use Rattle.recorded.specs.Recorded.{readAt, writtenAt, steppedAt, touchedAt}
 use Rattle.past.proofs.wall.is_touched.Statement.{statement}
 use Rattle.past.proofs.wall.is_touched.Tie as tie
 

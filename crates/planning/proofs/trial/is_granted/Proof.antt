@@ -10,7 +10,7 @@ use Rattle.planning.proofs.trial.is_granted.Statement.{statement}
 use Rattle.planning.proofs.trial.is_granted.Tie as tie
 use Rattle.planning.proofs.trial.is_granted.Reads as reads
 use Rattle.planning.proofs.trial.is_granted.Lts as lts
-use Rattle.planning.proofs.records.put_records.Reads as put-records-reads
+use Rattle.listed.proofs.records.put_records.Reads as put-records-reads
 use Rattle.planning.proofs.trial.run_grants.Reads as run-grants-reads
 
 slice-aggregate-put-records : tie.Need-slice-aggregate-put-records

@@ -9,22 +9,22 @@ use borrow.Author.Needs.{needs}
 use Rattle.policy.specs.Tables.{folderAt}
 use Rattle.policy.specs.Calls.{state}
 use Rattle.keeping.specs.Keeping.{kept}
-use Rattle.running.specs.Running.{Kept}
+use Rattle.running.specs.Kept.{Kept}
 use Rattle.running.proofs.ClassOf.{class-is}
-use Rattle.running.proofs.Turns.{granted-one, done-granted}
-use Rattle.running.proofs.WholeRecords.{Left, starts, whole-before, below-end, due-from-end, goes-parsed}
+use Rattle.putting.proofs.Turns.{granted-one, done-granted}
+use Rattle.putting.proofs.WholeRecords.{Left, starts, whole-before, below-end, due-from-end, goes-parsed}
 use Rattle.running.proofs.KeptTurns.{kept-none, serves-by, kept-sized, kept-room, kept-onward, kept-further, kept-more}
 use Rattle.running.proofs.kept.run_by.Statement.{statement}
 use Rattle.running.proofs.kept.run_by.Tie as tie
 use Rattle.running.proofs.kept.run_by.Reads as reads
 use Rattle.running.proofs.kept.run_by.Lts as lts
 use Rattle.bits.proofs.wide.Reads as wide-reads
-use Rattle.keeping.proofs.checks.check_numbers.Reads as check-numbers-reads
-use Rattle.keeping.proofs.checks.grants.Reads as grants-reads
-use Rattle.keeping.proofs.kinds.rows.Reads as rows-reads
+use Rattle.branchfree.proofs.checks.check_numbers.Reads as check-numbers-reads
+use Rattle.branchfree.proofs.checks.grants.Reads as grants-reads
+use Rattle.branchfree.proofs.kinds.rows.Reads as rows-reads
 use Rattle.keeping.proofs.put.Reads as put-reads
 use Rattle.request.proofs.parse_whole.Reads as parse-whole-reads
-use Rattle.running.proofs.granted_by.Reads as granted-by-reads
+use Rattle.putting.proofs.granted_by.Reads as granted-by-reads
 
 abbrev Inv-loop : tie.InvT-loop
 Inv-loop holders classes firms₀ holding₀ done₀ next₀ sets₀ h₀ l requests answers₀ end t rows numbers grants at₀ answered₀ granted₀ firms

@@ -1,0 +1,3 @@
+pub mod KindLaws
+pub mod FailingLaws
+pub mod UpdateLaws

@@ -1,0 +1,4 @@
+pub mod TurningLaws
+pub mod AddingLaws
+pub mod FolderWords
+pub mod GroupLaws

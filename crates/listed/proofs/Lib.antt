@@ -1,0 +1,4 @@
+pub mod Implied
+pub mod JobBytes
+pub mod StoredSides
+pub mod RecordLaws

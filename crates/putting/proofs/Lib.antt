@@ -1,0 +1,4 @@
+pub mod Records
+pub mod WholeRecords
+pub mod Turns
+pub mod PutAlone

@@ -1,0 +1,4 @@
+pub mod JudgingLaws
+pub mod Deciding
+pub mod AskingLaws
+pub mod Posings

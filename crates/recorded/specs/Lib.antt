@@ -1,0 +1,5 @@
+pub mod Folders
+pub mod Recorded
+pub mod Levels
+pub mod Gathering
+pub mod Visits
