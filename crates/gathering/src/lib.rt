@@ -1,7 +1,7 @@
 // Gathering what a run keeps, once and for all persons, folders and rights: the firms that the wall counts for each person, the roles that
 // hold all the rights that each person used, the roles that hold each right, the steps done on each folder, and those that may be next.
 // Only what a rule in force asks about is gathered. Persons are gathered as words: for each folder, then for each firm or right; these are
-// turned round into a set for each person (`turning`).
+// turned round into a set for each person (`grouping::turning`).
 ghost use mathlib.Core.Path.{_≡_};
 ghost use mathlib.Core.Bool.{Bool, true};
 ghost use Prim.Native.Nat.{_%_, _<_};

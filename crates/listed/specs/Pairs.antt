@@ -1,4 +1,4 @@
--- The rules on pairs of jobs, over what is looked up about each job once. Law `pair-same` in proofs/Orders says that this is `mayPrecede`.
+-- The rules on pairs of jobs, over what is looked up about each job once. Law `pair-same` of `planning` says that this is `mayPrecede`.
 use Prim.Native.Nat.{ℕ, _%_, _<_}
 use mathlib.Core.Path.{_≡_}
 use mathlib.Core.Bool.{Bool, false, not, _&&_}

@@ -1,4 +1,4 @@
--- What the functions of this crate compute: the number of a request by the checks 13 to 17, with 21 in the place of 15.
+-- What the functions of this crate and of `judging` compute: the number of a request by the checks 13 to 17, with 21 in the place of 15.
 use Prim.Native.Nat.{ℕ, _+_}
 use mathlib.Core.Path.{_≡_}
 use mathlib.Core.Bool.{Bool, true, cond}

@@ -1,4 +1,5 @@
--- What the bytes of a history have of one person: a read, a write or a step of a folder, and a start.
+-- What the bytes of a history have of one person: a read, a write or a step of a folder, and a start; and the bounds within which these
+-- and a folder's entry are read.
 use Prim.Native.Nat.{ℕ, _<_}
 use mathlib.Core.Path.{_≡_}
 use mathlib.Core.Bool.{Bool, true, cond, _&&_, _||_}

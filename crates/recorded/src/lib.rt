@@ -1,5 +1,5 @@
 // What a history records of one person: the persons who stepped on each folder and the folders on which one person did (`steps`), the steps
-// that a person applied (`applied`), and the current level (`levels`). Each public function is called over a history of 18,944 bytes.
+// that a person applied (`applied`), and the current level (`levels`). A history that is lent has 18,944 bytes.
 
 pub mod applied;
 pub mod levels;
