@@ -1,5 +1,6 @@
 // The program `answers` (document 01): a rulebook and then requests on standard input, one line for each request on standard output.
 // What it prints is made by the crate `report` from what the crate `monitor` answers; nothing is judged here.
+#![tactic(auto)]
 use libc::{STDIN_FILENO, STDOUT_FILENO};
 use policy::{Tables, numbers};
 

@@ -1,4 +1,6 @@
 // Bits of numbers, bit 0 lowest. The number of a bit is taken modulo the width, as a shift takes it, so each function is total.
+#![tactic(auto)]
+
 ghost use Rattle.std.specs.Prelude.{◌≡◌, cond, ◌&&◌, ◌%◌, ◌<◌};
 ghost use Rattle.bits.specs.Bits.{bit, with_bit, without_bit};
 ghost use Rattle.bits.specs.Bounded.{count_below, lowest_below};

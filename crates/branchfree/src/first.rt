@@ -13,7 +13,7 @@ use crate::{checks, kinds};
 
 // The sets that a request is judged by: the level that is needed and the person's own, the firms of the folder's class and those that the
 // wall counts, the roles that hold all rights used and those that hold the new one, and the steps that may be next.
-#[derive(Drop)]
+#[derive(Clone, Copy)]
 pub struct Asked {
     pub needed: u64,
     pub own: u64,

@@ -114,7 +114,7 @@ pub fn row(rows: &[u64; 64], kind: u8, j: usize) -> u64
 
 // A request placed: its numbers brought into range, where its level stands among the sets and its bit in a history, and 1 if a number was
 // out of range.
-#[derive(Drop)]
+#[derive(Clone, Copy)]
 pub struct Placed {
     pub person: usize,
     pub place: usize,

@@ -1,6 +1,7 @@
 // The program `cases`: plays a file of calls from standard input on the monitor, and prints a line for each call on standard output.
 // The format of the file and of the lines is that of reference/FORMAT.md; nothing is judged here. Of a longer input it takes the first
 // 458,752 bytes.
+#![tactic(auto)]
 use libc::STDIN_FILENO;
 use policy::Tables;
 

@@ -1,4 +1,6 @@
 // The counts of a tally (document 02, Point 7): which firm a request is counted under, one count more, and the record that a caller keeps.
+#![tactic(auto)]
+
 ghost use Rattle.std.specs.Prelude.{◌≡◌, ◌||◌, ◌%◌, ◌≤◌, ◌<◌, eqb, length};
 ghost use Rattle.policy.specs.declared.Tables.{Tables};
 ghost use Rattle.policy.specs.Tables.{folder_at};
@@ -10,7 +12,7 @@ use policy::Folder;
 use request::Parsed;
 
 // The counts of a month: that of firm f, 64 for no firm, and number n stands at 32 * f + n. A count at 2^64 - 1 stays.
-#[derive(Drop)]
+#[derive(Clone, Copy)]
 pub struct Tally {
     pub counts: [u64; 2080],
 }

@@ -1,11 +1,12 @@
 // A list of jobs as bytes for the code that plans, four for each: the list is lent as records, a slice of structs (document 02, Point 6).
+#![tactic(auto)]
 ghost use Rattle.std.specs.Prelude.{◌≡◌};
 ghost use Rattle.jobs.specs.Packing.{none_stored, stored, packed_jobs};
 
 use policy::Job;
 
 // The length of a list, and the bytes of its first 65 jobs, then zeros. 65 jobs are enough to tell that there are more than 64.
-#[derive(Drop)]
+#[derive(Clone, Copy)]
 pub struct Packed {
     pub len: usize,
     pub bytes: [u8; 260],

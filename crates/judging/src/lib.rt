@@ -2,6 +2,7 @@
 // levels: the checks 12 to 17, and 21 in the place of 15. Of the past only that is gathered which a rule in force asks about: for the wall
 // the folders of the request's class, for roles the rights that the person used, until no role holds them, for the pipeline the steps on
 // the folder; and nothing once a rule has refused.
+#![tactic(auto)]
 ghost use Rattle.std.specs.Prelude.{◌≡◌, true, cond, ◌%◌, length};
 ghost use Rattle.bits.specs.Bits.{with_bit};
 ghost use Rattle.policy.specs.Tables.{person_declared, folder_declared};

@@ -1,4 +1,6 @@
 // Levels (document 01, "Levels"): a rank of 4 bits above a set of 12 compartments, in the 16 bits of a number.
+#![tactic(auto)]
+
 ghost use Rattle.std.specs.Prelude.{◌≡◌, ◌%◌, min};
 ghost use Rattle.level.specs.Levels.{rank_of, compartments_of, level_of, compare_of, meet_of};
 
@@ -14,11 +16,11 @@ fn smaller(a: u16, b: u16) -> u16
     b
 }
 
-#[derive(Drop)]
+#[derive(Clone, Copy)]
 pub struct Level(pub u16);
 
 // How a level compares with another one, which is to be at least as high.
-#[derive(Drop)]
+#[derive(Clone, Copy)]
 pub enum Comparison {
     // It is at most the other.
     AtMost,

@@ -1,5 +1,7 @@
 // The level buffer (document 02, Point 4): each person's current level held ready, 2 bytes at 2 * s for person s, low byte first. `entry`
 // and `set_entry` are the only functions that read and write an entry.
+#![tactic(auto)]
+
 ghost use Rattle.std.specs.Prelude.{◌≡◌, cond, ◌<◌, length};
 ghost use Rattle.level.specs.Levels.{meet_of};
 ghost use Rattle.policy.specs.Levels.{levels_bytes, level_at, with_level_at, first_levels};

@@ -11,7 +11,7 @@ use policy::Tables;
 // What the rules on pairs ask about a job: its person, its folder and that one's level, its step and the steps that this one enables;
 // whether low-water is in force and the job lowers its person's level, and whether it needs a level; and whether the pipeline is in force
 // and the job is a step.
-#[derive(Drop)]
+#[derive(Clone, Copy)]
 pub struct Side {
     pub person: u8,
     pub folder: u8,

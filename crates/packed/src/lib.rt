@@ -2,6 +2,8 @@
 // (crate `recorded`, and the timed test). No call packs its tables. Places: 0 to 127 the folders, 128 to 191 the persons' levels, 192
 // to 255 the firms, 256 to 287 the rights of the roles, 288 to 303 the steps, 304 the mask, 305 the set of the declared persons, 306 that
 // of the declared roles.
+#![tactic(auto)]
+
 ghost use Rattle.std.specs.Prelude.{◌≡◌, ◌<◌};
 ghost use Rattle.policy.specs.Tables.{person_at, folder_at};
 ghost use Rattle.packed.specs.Packed.{tables_of};

@@ -4,6 +4,8 @@
 // bytes. Indexes of bits (document 01, "History"), for person s: 128 * s + o for a read of folder o, 8192 more for a write, 16384 + 64 * s
 // + u for a start of person u, 20480 + 64 * (16 * o + p) + s for step p on folder o. Rights: the folder's kind for a read, 16 + kind for a
 // write, 32 for a start, 48 + p for step p.
+#![tactic(auto)]
+
 ghost use Rattle.std.specs.Prelude.{◌≡◌, true, ◌+◌, ◌%◌, ◌≤◌, ◌<◌, length};
 ghost use Rattle.bits.specs.Bits.{mask_below};
 ghost use Rattle.policy.specs.Tables.{person_declared};
@@ -23,7 +25,7 @@ pub mod rights;
 pub mod wall;
 
 // The set of the rights used and the set of the firms opened: bit k for number k.
-#[derive(Drop)]
+#[derive(Clone, Copy)]
 pub struct Past {
     pub rights: u64,
     pub firms: u64,

@@ -1,5 +1,7 @@
 // The pipeline (document 01, "Four rules"): the steps done on a folder, and whether one more step is permitted, over the sets of the steps
 // that each step enables.
+#![tactic(auto)]
+
 ghost use Rattle.std.specs.Prelude.{◌≡◌, not, cond, ◌+◌, ◌*◌, ◌%◌, ◌<◌, eqb, length};
 ghost use Rattle.bits.specs.Bits.{with_bit, mask_below};
 ghost use Rattle.bits.specs.Bounded.{any_below};

@@ -120,7 +120,7 @@ over_reversed : (t : Tables) (g : List Request) (calls : List (List ℕ))
 unfolding granted_over put_over answered_zero judge_list
 over_reversed t g [] = refl
 over_reversed t g (bytes ∷ calls) =
-    over_reversed t _ calls ∙ sym (reverse_added (eqb (judge_over t (member g) bytes) 0) (request_of bytes) g _)
+    over_reversed t (put_over t g bytes) calls ∙ sym (reverse_added (eqb (judge_over t (member g) bytes) 0) (request_of bytes) g _)
 
 member_reversed : (l g : List Request) (r : Request) → member (reverse_aux l g) r ≡ member l r || member g r
 unfolding member

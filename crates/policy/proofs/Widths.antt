@@ -68,9 +68,9 @@ records_fit (suc n) (kind ∷ body) h r m =
 
 -- ---- the tables
 
-array_member : {A : Type 0} (P : A → Type 0) (d : A) {l : List A} → ((i : ℕ) → P (get_or l i d)) → (x : A) → Memᴰ x l → P x
-array_member P d h x (Memᴰ.head e) = rw e (h 0)
-array_member P d h x (Memᴰ.tail m) = array_member P d (λ i. h (suc i)) x m
+array_member : {A : Type 0} (P : A → Type 0) (d x : A) {l : List A} → ((i : ℕ) → P (get_or l i d)) → Memᴰ x l → P x
+array_member P d x h (Memᴰ.head e) = rw e (h 0)
+array_member P d x h (Memᴰ.tail m) = array_member P d x (λ i. h (suc i)) m
 
 pub sound_type : (t : Tables) → Sound Bits t → OfType t
 sound_type t s =
@@ -80,10 +80,10 @@ sound_type t s =
       folders = s.folders.size;
       roles = s.roles.size;
       steps = s.steps.size;
-      person_levels = λ n m. array_member (λ n. n.level.0 < 2 ^ 16) no_person (λ i. (s.persons.each i).1) n m;
-      folder_levels = λ o m. array_member (λ o. o.level.0 < 2 ^ 16) no_folder (λ i. (s.folders.each i).1) o m;
-      rights = λ k m. array_member (λ k. k.rights < 2 ^ 64) no_role (λ i. (s.roles.each i).1) k m;
-      sets = λ x m. array_member (λ x. x < 2 ^ 16) 0 (λ i. (s.steps.each i).1) x m;
+      person_levels = λ n m. array_member (λ n. n.level.0 < 2 ^ 16) no_person n (λ i. (s.persons.each i).1) m;
+      folder_levels = λ o m. array_member (λ o. o.level.0 < 2 ^ 16) no_folder o (λ i. (s.folders.each i).1) m;
+      rights = λ k m. array_member (λ k. k.rights < 2 ^ 64) no_role k (λ i. (s.roles.each i).1) m;
+      sets = λ x m. array_member (λ x. x < 2 ^ 16) 0 x (λ i. (s.steps.each i).1) m;
     }
 
 pub loaded_type : (book : List ℕ) → Bytes book → (load_book book).number ≡ 0 → OfType (load_book book).tables

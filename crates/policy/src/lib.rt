@@ -1,4 +1,5 @@
 // The declared types of the monitor: the tables of a rulebook and what the calls return.
+#![tactic(auto)]
 use level::Level;
 
 pub mod numbers;
@@ -13,21 +14,21 @@ pub const ROLES_RULE: usize = 2;
 pub const PIPELINE_RULE: usize = 3;
 
 // A firm and its conflict class (document 01: "class of rivals").
-#[derive(Drop)]
+#[derive(Clone, Copy)]
 pub struct Firm {
     pub declared: bool,
     pub class: u8,
 }
 
 // A person and the person's first level.
-#[derive(Drop)]
+#[derive(Clone, Copy)]
 pub struct Person {
     pub declared: bool,
     pub level: Level,
 }
 
 // A folder, the firm that it belongs to, its kind, its level, and whether it is public (document 02, Point 1).
-#[derive(Drop)]
+#[derive(Clone, Copy)]
 pub struct Folder {
     pub declared: bool,
     pub firm: u8,
@@ -37,14 +38,14 @@ pub struct Folder {
 }
 
 // A role and the set of its rights: bit r for right r.
-#[derive(Drop)]
+#[derive(Clone, Copy)]
 pub struct Role {
     pub declared: bool,
     pub rights: u64,
 }
 
 // The tables of a rulebook. Undeclared entries are zero and marked so; the entry of a step is the set of the steps that it enables.
-#[derive(Drop)]
+#[derive(Clone, Copy)]
 pub struct Tables {
     pub mask: u8,
     pub firms: [Firm; 64],
@@ -55,7 +56,7 @@ pub struct Tables {
 }
 
 // What loading returns: 0 or the number of the refusal, the offset of the end record or the refused one, and the tables.
-#[derive(Drop)]
+#[derive(Clone, Copy)]
 pub struct Loaded {
     pub number: u8,
     pub offset: usize,
@@ -63,7 +64,7 @@ pub struct Loaded {
 }
 
 // What a run returns: its own number, and how many of the answers that it wrote are 0 and how many are not.
-#[derive(Drop)]
+#[derive(Clone, Copy)]
 pub struct Ran {
     pub number: u8,
     pub granted: usize,
@@ -71,7 +72,7 @@ pub struct Ran {
 }
 
 // A person's standing: the number, the current level, how many rights the person used and how many firms the person opened.
-#[derive(Drop)]
+#[derive(Clone, Copy)]
 pub struct Standing {
     pub number: u8,
     pub level: Level,
@@ -82,7 +83,7 @@ pub struct Standing {
 // A job of a list to be planned (document 02, Point 6): the kind of a request, its person, its folder or second person, and its step,
 // which is passed over unless the kind is 19. Its four bytes stand in this order, as in C.
 #[repr(C)]
-#[derive(Drop)]
+#[derive(Clone, Copy)]
 pub struct Job {
     pub action: u8,
     pub person: u8,
@@ -91,7 +92,7 @@ pub struct Job {
 }
 
 // What planning returns: the number, and the places of the jobs, from 0, in the order of putting; zeros after them, and with a refusal.
-#[derive(Drop)]
+#[derive(Clone, Copy)]
 pub struct Plan {
     pub number: u8,
     pub positions: [u8; 64],

@@ -20,16 +20,17 @@ pub data Inserted {A : Type 0} (x : A) : List A → List A → Type 0 where
 
 pub taken_out : {A : Type 0} {x : A} {l m n : List A} → Inserted x l m → Permᴰ m n
     → (k : List A) × Inserted x k n × Permᴰ l k
+taken_out {A = A} {l = l} i Permᴰ.nil = elim i [ ]
 taken_out (here p) (Permᴰ.cons e d) = (_, here (p ∙ e), d)
-taken_out (there i) (Permᴰ.cons e d) =
-    let (k, j, d') = taken_out i d in
+taken_out {A = A} {x = x} (there {y = y} {l = l} i) (Permᴰ.cons {b = b} {l₁ = l₁} {l₂ = l₂} e d) =
+    let (k, j, d') = taken_out {l = l} i d in
     (_, there j, Permᴰ.cons e d')
 taken_out (here p) (Permᴰ.swap e f) = (_, there (here (p ∙ e)), Permᴰ.cons f (Permᴰ.refl _))
 taken_out (there (here p)) (Permᴰ.swap e f) = (_, here (p ∙ f), Permᴰ.cons e (Permᴰ.refl _))
 taken_out (there (there i)) (Permᴰ.swap e f) = (_, there (there i), Permᴰ.swap e f)
-taken_out i (Permᴰ.trans d d') =
-    let (k, j, c) = taken_out i d in
-    let (k', j', c') = taken_out j d' in
+taken_out {l = l} i (Permᴰ.trans d d') =
+    let (k, j, c) = taken_out {l = l} i d in
+    let (k', j', c') = taken_out {l = k} j d' in
     (k', j', Permᴰ.trans c c')
 
 pub jobs_reordered : {l m : List (List ℕ)} → Permᴰ l m → (jobs : List Job) → records jobs ≡ l

@@ -1,6 +1,7 @@
 // Putting requests one after another (document 01, "Requests and calls"), each judged alone, on tables that a load gives, a history of
 // 18,944 bytes and 128 bytes of levels (`alone`); how many answers a run has, and where its whole records end. A granted request is
 // recorded, and a granted read or step lowers its person's level (document 02, Point 4).
+#![tactic(auto)]
 ghost use Rattle.std.specs.Prelude.{◌≡◌, cond, eqb};
 ghost use Rattle.policy.specs.Calls.{answers_due};
 ghost use Rattle.putting.specs.Running.{whole_end};
@@ -12,7 +13,7 @@ mod recording;
 
 // The answers that a run of the requests has: one for each record, and one for the unknown or cut record that ends it; and where the whole
 // records end.
-#[derive(Drop)]
+#[derive(Clone, Copy)]
 pub struct Extent {
     pub due: usize,
     pub end: usize,
@@ -46,7 +47,7 @@ pub fn granted_by(answer: u8) -> usize
 }
 
 // How far a run has come: where the next record stands, how many answers are written, and how many of them are grants.
-#[derive(Drop)]
+#[derive(Clone, Copy)]
 pub struct Progress {
     pub at: usize,
     pub answered: usize,
@@ -54,7 +55,7 @@ pub struct Progress {
 }
 
 // The requests that a run granted, and those that it refused.
-#[derive(Drop)]
+#[derive(Clone, Copy)]
 pub struct Counts {
     pub granted: usize,
     pub refused: usize,

@@ -7,7 +7,7 @@ use bits::both;
 use policy::{Folder, Person};
 
 // Whether a request's person and its folder are declared, and the folder's entry; and whether its person and a second one are declared.
-#[derive(Drop)]
+#[derive(Clone, Copy)]
 pub struct Asked {
     pub known: bool,
     pub folder: Folder,

@@ -14,7 +14,7 @@ use request::Parsed;
 // The number of a request that no rule is asked about, or 0. Otherwise whether the wall is asked about an access to its folder; whether
 // low-water is asked, and the level that is to be at most the person's; the right that it uses; and whether the pipeline is asked about its
 // step.
-#[derive(Drop)]
+#[derive(Clone, Copy)]
 pub struct Question {
     pub number: u8,
     pub access: bool,

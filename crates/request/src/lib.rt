@@ -1,4 +1,6 @@
 // Request records (document 01, "Requests and calls"): the request at the front of some bytes, and where the next one stands.
+#![tactic(auto)]
+
 ghost use Rattle.std.specs.Prelude.{◌≡◌, cond, ◌≤◌, ◌<◌, eqb, length};
 ghost use Rattle.std.proofs.Math.Option.{none};
 ghost use Rattle.policy.specs.Request.{start, step, index};
@@ -6,7 +8,7 @@ ghost use Rattle.request.specs.Parsed.{access_by, as_request, whole_length, Pars
 
 // A request as its record has it: the kind, the person, the folder or the second person, and the step, which is passed over unless the kind
 // is 19; and how far on the next record stands. Kind 0 stands for none: the kind is unknown or the record is cut.
-#[derive(Drop)]
+#[derive(Clone, Copy)]
 pub struct Parsed {
     pub kind: u8,
     pub person: u8,

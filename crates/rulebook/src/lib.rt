@@ -1,4 +1,6 @@
 // Loading a rulebook (document 01, "Rulebook"): the tables that its records declare, or the number and the offset of what refuses it.
+#![tactic(auto)]
+
 ghost use Rattle.std.specs.Prelude.{◌≡◌};
 ghost use Rattle.policy.specs.Rulebook.{refused_book, load_book, given};
 ghost use Rattle.policy.specs.Calls.{rest_of};

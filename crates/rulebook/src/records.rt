@@ -13,7 +13,7 @@ const LAST_KIND: u8 = 7;
 
 // A record as it is read: the number that refuses it, or 0, its kind, the bytes of its body that are fields, its level or its rights, and
 // where the next record starts. What its kind does not have is 0, and so is everything of a refused record but its number.
-#[derive(Drop)]
+#[derive(Clone, Copy)]
 pub struct Reading {
     pub number: u8,
     pub kind: u8,

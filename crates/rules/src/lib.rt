@@ -1,4 +1,6 @@
 // What the wall and the roles (document 01, "Four rules") ask of the tables, as sets: the firms of each class, and the rights of each role.
+#![tactic(auto)]
+
 ghost use Rattle.std.specs.Prelude.{◌≡◌, true, ◌≤◌, ltb};
 ghost use Rattle.policy.specs.Rulebook.{given};
 ghost use Rattle.rules.specs.Sets.{HasClasses, HasRoles, covers as coversAll, roles_in};

@@ -1,12 +1,14 @@
 // Sorting by pairs (a topological sort): for each place below a bound the set is given of the places that it may not come before, and an
 // order of all of them is looked for in which each may come before each later one. Again and again the first pending place is taken that
 // may come before every pending one; where none may, there is no such order.
+#![tactic(auto)]
+
 ghost use Rattle.std.specs.Prelude.{◌≡◌, true, ◌≤◌};
 ghost use Rattle.bits.specs.Bits.{mask_below};
 ghost use Rattle.sorting.specs.Sorting.{FirstFree, Sorts};
 
 // Whether there is an order, and the places in it, then zeros.
-#[derive(Drop)]
+#[derive(Clone, Copy)]
 pub struct Order {
     pub found: bool,
     pub positions: [u8; 64],

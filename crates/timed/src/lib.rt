@@ -1,5 +1,7 @@
 // The part of the reads in a current level, for the timed test that document 02's Point 3 asks for (bindings/benches/reads): no load, no
 // steps and no copy of the tables, which are lent packed. It is no part of the library that others link.
+#![tactic(auto)]
+
 ghost use Rattle.std.specs.Prelude.{◌≡◌};
 ghost use Rattle.timed.specs.Timed.{level_by_reads};
 

@@ -1,0 +1,12 @@
+-- `bits::with_bit64_if` sets the bit where it is asked to, and leaves the number otherwise: 1 shifted up is the bit, and 0 shifted up is 0.
+use native.Mathlib.Omega.{arith}
+use lib.Bits.{mask_lt}
+use Rattle.bits.proofs.BitLaws.{with_masked_bit_if}
+use borrow.Author.Rules.{rules}
+use Rattle.bits.proofs.with_bit64_if.Goals as goal
+
+pub overflow_shl-result : goal.overflow_shl-result
+overflow_shl-result c = omega (arith, mask_lt c.args.k 6)
+
+pub returns : goal.returns
+returns c = with_masked_bit_if 6 _ _ _ c.args.add c.one_if.ensures.0

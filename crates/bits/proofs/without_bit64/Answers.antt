@@ -1,0 +1,33 @@
+-- `bits::without_bit64` clears one bit of its number: where the bit is set its power is at most the number, and is taken away.
+use Prim.Native.Nat.{◌%◌}
+use native.Mathlib.Omega.{arith}
+use mathlib.Core.Path.{◌≡◌, sym, ◌∙◌}
+use mathlib.Core.Bool.{true, false}
+use lib.Bits.{mask_lt}
+use Rattle.bits.specs.Bits.{bit, without_bit}
+use Rattle.bits.proofs.BitLaws.{masked_pow}
+use Rattle.bits.proofs.LowestBit.{set_le}
+use borrow.Author.Rules.{rules}
+use Rattle.bits.proofs.without_bit64.Goals as goal
+
+pub overflow_shl-result : goal.overflow_shl-result
+overflow_shl-result c = omega (arith, mask_lt c.args.k 6)
+
+pub overflow_sub-result : goal.overflow_sub-result
+overflow_sub-result c =
+    let args = c.args in
+    rw (masked_pow 6 args.k) (set_le args.n (args.k % 64) (sym c.bit64.ensures ∙ c.if-bit64.true))
+
+pub returns-then-bit64 : goal.returns-then-bit64
+unfolding without_bit
+returns-then-bit64 c =
+    let args = c.args in
+    let set : bit args.n (args.k % 64) ≡ true = sym c.bit64.ensures ∙ c.if-bit64.true in
+    rw (masked_pow 6 args.k, set)
+
+pub returns : goal.returns
+unfolding without_bit
+returns c =
+    let args = c.args in
+    let unset : bit args.n (args.k % 64) ≡ false = sym c.bit64.ensures ∙ c.if-bit64.false in
+    rw unset

@@ -1,0 +1,17 @@
+-- `stage` stores the rows one after another: before turn i the first 2 * i rows are those of the stage.
+use Prim.Native.Nat.{◌+◌, ◌-◌, ◌*◌, ◌≤◌}
+use native.Mathlib.Omega.{arith}
+use mathlib.Core.Path.{◌≡◌, refl}
+use Rattle.recorded.specs.Gathering.{FirstAre}
+use Rattle.recorded.proofs.GatheringLaws.{stored_none, stored_more}
+use Rattle.grouping.specs.Turning.{stage_row}
+use Rattle.grouping.proofs.TurningLaws.{even_row, odd_row}
+use Rattle.grouping.proofs.turning.stage.Given as goal
+
+abbrev pub invariant-loop-i : goal.invariant-loop-i
+invariant-loop-i l =
+    (l.i ≤ 32) × FirstAre 64 (2 * l.i) (stage_row l.width l.rows) l.out
+
+abbrev pub decreases-loop-i : goal.decreases-loop-i
+decreases-loop-i l =
+    32 - l.i

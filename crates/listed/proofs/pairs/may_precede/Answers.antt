@@ -1,0 +1,11 @@
+-- `may_precede` is every rule on pairs.
+use mathlib.Core.Path.{ap₂, ◌∙◌}
+use mathlib.Core.Bool.{◌&&◌}
+use Rattle.listed.specs.Pairs.{precedes}
+use Rattle.listed.proofs.pairs.may_precede.Lts as lts
+use borrow.Author.Rules.{rules}
+use Rattle.listed.proofs.pairs.may_precede.Goals as goal
+
+pub returns : goal.returns
+unfolding precedes
+returns c = c.both.ensures ∙ ap₂ ◌&&◌ c.levels_permit.ensures c.steps_permit.ensures

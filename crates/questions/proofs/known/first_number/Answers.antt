@@ -1,0 +1,15 @@
+-- `first_number` is 14 where the wall refuses, and else the number of low-water.
+use mathlib.Core.Path.{sym, ◌∙◌}
+use borrow.Author.Tests.{not-true, not-false}
+use Rattle.questions.proofs.JudgingLaws.{first_number}
+use Rattle.questions.proofs.known.first_number.Lts as lts
+use borrow.Author.Rules.{rules}
+use Rattle.questions.proofs.known.first_number.Goals as goal
+
+pub returns-then-not-wall_passes : goal.returns-then-not-wall_passes
+returns-then-not-wall_passes c = sym (first_number _ _ _ ∙ rw (sym c.wall_passes.ensures ∙ c.if-not-wall_passes.true))
+
+pub returns : goal.returns
+returns c =
+    c.level_number.ensures
+    ∙ sym (first_number _ _ _ ∙ rw (sym c.wall_passes.ensures ∙ c.if-not-wall_passes.false))

@@ -1,0 +1,16 @@
+-- `applied::applied_if` answers the steps that a person applied to a folder: none where the person is not among its steppers.
+use mathlib.Core.Path.{sym, ◌∙◌}
+use borrow.Author.Tests.{not-true}
+use Rattle.bits.proofs.Masks.{mask_test}
+use Rattle.recorded.specs.Recorded.{stepped_at}
+use Rattle.recorded.proofs.GatheringLaws.{unstepped_on}
+use borrow.Author.Rules.{rules}
+use Rattle.recorded.proofs.applied.applied_if.Goals as goal
+
+pub returns-then-not-bit64 : goal.returns-then-not-bit64
+returns-then-not-bit64 c =
+    let start = c in
+    let args = c.args in
+    let among = mask_test (λ s. stepped_at args.h.now s args.o) args.s c.requires.person c.steppers.ensures
+    c.bit64.ensures in
+    unstepped_on args.folder args.h.now args.s args.o (sym among ∙ c.if-not-bit64.true)

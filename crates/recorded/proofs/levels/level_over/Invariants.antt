@@ -1,0 +1,20 @@
+-- `levels::level_over` answers the level after 64 folders: at each turn the folders left in the set lower the level to the answer, since
+-- the lowest of them can come first. The set is a number that falls, as it loses a bit at each turn.
+use Prim.Native.Nat.{◌+◌, ◌^◌, ◌<◌}
+use native.Mathlib.Omega.{arith}
+use mathlib.Core.Path.{◌≡◌, refl, sym, ◌∙◌}
+use Rattle.bits.proofs.LowestBit.{lowest_lt, lowest_set, without_lt}
+use Rattle.bits.proofs.SetFolds.{set_none, set_lowest}
+use Rattle.packed.specs.Packed.{tables_of}
+use Rattle.policy.specs.Tables.{folder_at}
+use Rattle.recorded.specs.Levels.{level_after, level_over}
+use Rattle.recorded.proofs.levels.level_over.Lts as lts
+use Rattle.recorded.proofs.levels.level_over.Given as goal
+
+abbrev pub invariant-loop-rest : goal.invariant-loop-rest
+invariant-loop-rest l =
+    (l.rest < 2 ^ 64) × (level_over (tables_of l.t) l.rest l.first 64 l.level.0 ≡ level_over (tables_of l.t) l.set l.first 64 l.initial.level.0)
+
+abbrev pub decreases-loop-rest : goal.decreases-loop-rest
+decreases-loop-rest l =
+    l.rest

@@ -1,0 +1,8 @@
+-- `empty` makes the tables of the empty book.
+use Rattle.policy.specs.Tables.{empty_tables}
+use borrow.Author.Rules.{rules}
+use Rattle.rulebook.proofs.entries.empty.Goals as goal
+
+pub returns : goal.returns
+unfolding empty_tables
+returns c = rw (c.persons_of-persons.ensures, c.folders_of-folders.ensures)

@@ -1,0 +1,12 @@
+-- `entries::role_given` tests one entry as `roleGiven` does.
+use Rattle.policy.specs.Rulebook.{role_given}
+use borrow.Author.Rules.{rules}
+use Rattle.rulebook.proofs.entries.role_given.Goals as goal
+
+pub returns-then-k : goal.returns-then-k
+unfolding role_given
+returns-then-k c = rw c.if-k.true
+
+pub returns-else-k : goal.returns-else-k
+unfolding role_given
+returns-else-k c = rw c.if-k.false

@@ -1,0 +1,30 @@
+-- `steps::has_circle` asks of each closed set in turn whether its own step is in it; a step's number is itself modulo 16.
+use Prim.Native.Nat.{◌≤◌, ◌<◌, ◌-◌, zero-le}
+use native.Mathlib.Omega.{arith}
+use mathlib.Core.Path.{◌≡◌, sym, ◌∙◌}
+use Rattle.bits.specs.Bits.{bit}
+use Rattle.bits.specs.Bounded.{any_below}
+use Rattle.bits.proofs.Bounds.{any_start}
+use Rattle.rulebook.specs.Steps.{on_itself, circle_in}
+use Rattle.rulebook.proofs.TurnLaws.{any_turn, within}
+use borrow.Author.Rules.{rules}
+use Rattle.rulebook.proofs.steps.has_circle.Goals as goal
+
+pub loop-p-init : goal.loop-p-init
+loop-p-init c = (zero-le, sym (any_start _))
+
+pub loop-p-preserved : goal.loop-p-preserved
+unfolding on_itself
+loop-p-preserved c =
+    let p = c.loop-p.p in
+    let below : p < 16 = omega arith in (
+      search rules,
+      any_turn p _ c.loop-p.invariant.1 (c.bit16.ensures ∙ within (bit _) p 16 below)
+          c.either-found.ensures,
+    )
+
+pub returns : goal.returns
+unfolding circle_in
+returns c =
+    let end : c.loop-p.p ≡ 16 = omega arith in
+    c.loop-p.invariant.1 ∙ rw (end, c.close-all.ensures)

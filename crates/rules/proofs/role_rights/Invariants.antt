@@ -1,0 +1,18 @@
+-- `role_rights` copies the rights of each role: before each turn those of the roles below the number reached are there.
+use Prim.Native.Nat.{ℕ, ◌+◌, ◌-◌, ◌≤◌}
+use native.Mathlib.Omega.{arith}
+use mathlib.Core.Path.{◌≡◌, refl, ◌∙◌}
+use lib.ListN.{length-replicate}
+use Rattle.bits.specs.Filling.{Filled}
+use Rattle.bits.proofs.FillingLaws.{fill_none, fill_more}
+use Rattle.policy.specs.Tables.{role_at}
+use Rattle.rules.proofs.role_rights.Lts as lts
+use Rattle.rules.proofs.role_rights.Given as goal
+
+abbrev pub invariant-loop-k : goal.invariant-loop-k
+invariant-loop-k l =
+    (l.k ≤ 32) × Filled 0 l.k (λ i x. x ≡ (role_at l.t i).rights) l.initial.rights l.rights
+
+abbrev pub decreases-loop-k : goal.decreases-loop-k
+decreases-loop-k l =
+    32 - l.k

@@ -1,0 +1,21 @@
+-- `timed_level_by_reads` is `recorded`'s function of the reads; a history of another length and a number above 63 are refused before it.
+use native.Mathlib.Omega.{arith}
+use borrow.Author.Tests.{eq-eqb, ne_eqb, lt-ltb, le-ltb}
+use Rattle.timed.specs.Timed.{level_by_reads}
+use Rattle.timed.proofs.timed_level_by_reads.Lts as lts
+use borrow.Author.Rules.{rules}
+use Rattle.timed.proofs.timed_level_by_reads.Goals as goal
+
+pub returns-then-history-ne-BYTES : goal.returns-then-history-ne-BYTES
+unfolding level_by_reads
+returns-then-history-ne-BYTES c = rw (ne_eqb _ _ c.if-history-ne-BYTES.true)
+
+pub returns-then-person-ge64 : goal.returns-then-person-ge64
+unfolding level_by_reads
+returns-then-person-ge64 c =
+    let person = c.args.person in
+    rw (eq-eqb _ _ c.if-history-ne-BYTES.false, le-ltb person 64 (omega arith))
+
+pub returns : goal.returns
+unfolding level_by_reads
+returns c = rw (eq-eqb _ _ c.if-history-ne-BYTES.false, lt-ltb _ _ c.if-person-ge64.false) c.level_by_reads-level.ensures
