@@ -1,5 +1,6 @@
 // A list of jobs as bytes for the code that plans, four for each: the list is lent as records, a slice of structs (document 02, Point 6).
 #![tactic(auto)]
+
 ghost use Rattle.std.specs.Prelude.{◌≡◌};
 ghost use Rattle.jobs.specs.Packing.{none_stored, stored, packed_jobs};
 
