@@ -24,6 +24,7 @@ fn start(len: usize) -> Packed
 }
 
 // Stores the job at place i of the list, where there is room for it.
+#[tactic(auto, unfolding(crate::specs::Packing::stored, crate::specs::Packing::written))]
 fn store(p: Packed, i: usize, job: Job) -> Packed
     ensures { result ≡ stored p i job }
 {
