@@ -3,8 +3,6 @@ use mathlib.Core.Path.{sym}
 use lib.Seq.{set_out}
 use borrow.Author.Tests.{lt-ltb, le-ltb}
 use Rattle.counts.specs.Counting.{raised_at, with_one}
-use Rattle.counts.proofs.count_one.Lts as lts
-use borrow.Author.Rules.{rules}
 use Rattle.counts.proofs.count_one.Goals as goal
 
 pub returns-then-firm-gt64 : goal.returns-then-firm-gt64
@@ -26,4 +24,5 @@ returns-then-place-counts c =
 
 pub returns-else-place-counts : goal.returns-else-place-counts
 unfolding with_one raised_at
-returns-else-place-counts c = rw (le-ltb _ _ c.if-firm-gt64.false, le-ltb _ _ c.if-number-gt31.false) (sym (set_out _ _ _ c.if-place-counts.false))
+returns-else-place-counts c =
+    rw (le-ltb _ _ c.if-firm-gt64.false, le-ltb _ _ c.if-number-gt31.false) (sym (set_out _ _ _ c.if-place-counts.false))
