@@ -8,11 +8,11 @@ use borrow.Author.Tests.{eq-eqb, ne_eqb}
 use Rattle.policy.specs.declared.Loaded.{Loaded}
 use Rattle.policy.specs.declared.Ran.{Ran}
 use Rattle.policy.specs.declared.Standing.{Standing}
-use Rattle.policy.specs.declared.Tables.{Tables}
 use Rattle.policy.specs.Rulebook.{given, load_book}
 use Rattle.policy.proofs.Loads.{loaded_given}
 use Rattle.policy.specs.Calls.{State, blank_number, blank_state, judge_number, put_state, standing}
-use Rattle.loaded.specs.Refused.{no_run, no_standing}
+use Rattle.loaded.specs.Refused.{no_run, no_standing, RunIs}
+use Rattle.tallying.specs.TallyIs.{TallyIs}
 use Rattle.exports.specs.Packed.{
   packed_load,
   packed_run,
@@ -23,7 +23,11 @@ use Rattle.exports.specs.Packed.{
   judge_by,
   put_by,
   ran_packed,
-  ByBook,
+  ran_by,
+  state_by,
+  answers_by,
+  RunBy,
+  TallyBy,
   standing_packed,
   standing_by,
 }
@@ -46,10 +50,18 @@ module _ {l m : Loaded} (same : l ≡ m) where
     unfolding put_by
     put_refused a request = rw (← same, ne_eqb l.number 0 bad)
 
-    pub run_refused : (a : State) (lent : List ℕ) (run : Tables → Ran) (state : Tables → State) (last : Tables → List ℕ) (r : ℕ)
-        → r ≡ packed_run l.number 0 0 → ByBook m a lent run state last r a lent
+    pub run_refused : (a : State) (requests lent : List ℕ) (r : ℕ) → r ≡ packed_run l.number 0 0 → RunBy m a requests lent r a lent
+    unfolding ran_packed ran_by state_by answers_by no_run
+    run_refused a requests lent r packed = record {
+      returned = packed ∙ rw (← same, ne_eqb l.number 0 bad);
+      after = rw (← same, ne_eqb l.number 0 bad);
+      answers = rw (← same, ne_eqb l.number 0 bad);
+    }
+
+    pub tally_refused : (a : State) (requests counts : List ℕ) (r : ℕ) → r ≡ packed_run l.number 0 0
+        → TallyBy m a requests counts r a counts
     unfolding ran_packed no_run
-    run_refused a lent run state last r packed = record {
+    tally_refused a requests counts r packed = record {
       returned = packed ∙ rw (← same, ne_eqb l.number 0 bad);
       after = rw (← same, ne_eqb l.number 0 bad);
       others = rw (← same, ne_eqb l.number 0 bad);
@@ -74,14 +86,27 @@ module _ {l m : Loaded} (same : l ≡ m) where
     put_loaded a request = rw (← same, eq-eqb l.number 0 good)
 
     pub run_loaded :
-        (a : State) (lent : List ℕ) (run : Tables → Ran) (state : Tables → State) (last : Tables → List ℕ) (x : Ran) (r : ℕ) (left : State)
-        (written : List ℕ) → x ≡ run l.tables → left ≡ state l.tables → written ≡ last l.tables
-        → r ≡ packed_run x.number x.granted x.refused → ByBook m a lent run state last r left written
+        (a : State) (requests lent : List ℕ) (x : Ran) (r : ℕ) (left : State) (written : List ℕ)
+        → RunIs l.tables a requests lent x left written
+        → r ≡ packed_run x.number x.granted x.refused
+        → RunBy m a requests lent r left written
+    unfolding ran_packed ran_by state_by answers_by
+    run_loaded a requests lent x r left written is packed = record {
+      returned = packed ∙ rw (← same, eq-eqb l.number 0 good, is.returned);
+      after = is.after ∙ rw (← same, eq-eqb l.number 0 good);
+      answers = is.answers ∙ rw (← same, eq-eqb l.number 0 good);
+    }
+
+    pub tally_loaded :
+        (a : State) (requests counts : List ℕ) (x : Ran) (r : ℕ) (left : State) (written : List ℕ)
+        → TallyIs l.tables a requests counts x left written
+        → r ≡ packed_run x.number x.granted x.refused
+        → TallyBy m a requests counts r left written
     unfolding ran_packed
-    run_loaded a lent run state last x r left written is kept put packed = record {
-      returned = packed ∙ rw (← same, eq-eqb l.number 0 good, is);
-      after = kept ∙ rw (← same, eq-eqb l.number 0 good);
-      others = put ∙ rw (← same, eq-eqb l.number 0 good);
+    tally_loaded a requests counts x r left written is packed = record {
+      returned = packed ∙ rw (← same, eq-eqb l.number 0 good, is.returned);
+      after = is.state ∙ rw (← same, eq-eqb l.number 0 good);
+      others = is.counts ∙ rw (← same, eq-eqb l.number 0 good);
     }
 
     pub standing_loaded :

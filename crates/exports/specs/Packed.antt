@@ -6,7 +6,6 @@ use Rattle.policy.specs.declared.Loaded.{Loaded}
 use Rattle.policy.specs.declared.Plan.{Plan}
 use Rattle.policy.specs.declared.Ran.{Ran}
 use Rattle.policy.specs.declared.Standing.{Standing}
-use Rattle.policy.specs.declared.Tables.{Tables}
 use Rattle.policy.specs.Checks.{◌else◌, ladder}
 use Rattle.policy.specs.Calls.{
   State,
@@ -54,24 +53,27 @@ put_by l a request = cond (eqb l.number 0) (put_state l.tables a request) a
 unfoldable pub ran_packed : Ran → ℕ
 ran_packed r = packed_run r.number r.granted r.refused
 
--- what a run by a book returns, and the history, the levels and what is lent beside them afterwards: what the run does with the tables of a
--- book that loads, and nothing with a refused one
-pub record ByBook (l : Loaded) (a : State) (lent : List ℕ) (run : Tables → Ran) (state : Tables → State) (last : Tables → List ℕ)
-    (r : ℕ) (left : State) (written : List ℕ) : Type 0
-  where
-    pub returned : r ≡ ran_packed (cond (eqb l.number 0) (run l.tables) (no_run l.number))
-    pub after : left ≡ cond (eqb l.number 0) (state l.tables) a
-    pub others : written ≡ cond (eqb l.number 0) (last l.tables) lent
+unfoldable pub ran_by : Loaded → State → List ℕ → List ℕ → Ran
+ran_by l a requests lent = cond (eqb l.number 0) (ran l.tables a requests lent) (no_run l.number)
 
--- of run, with the answer bytes
-abbrev pub RunBy : Loaded → State → List ℕ → List ℕ → ℕ → State → List ℕ → Type 0
-RunBy l a requests lent =
-    ByBook l a lent (λ t. ran t a requests lent) (λ t. run_state t a requests lent) (λ t. run_answers t a requests lent)
+unfoldable pub state_by : Loaded → State → List ℕ → List ℕ → State
+state_by l a requests lent = cond (eqb l.number 0) (run_state l.tables a requests lent) a
 
--- of tally, with the counts
-abbrev pub TallyBy : Loaded → State → List ℕ → List ℕ → ℕ → State → List ℕ → Type 0
-TallyBy l a requests counts =
-    ByBook l a counts (λ t. tallied t a requests counts) (λ t. tally_state t a requests counts) (λ t. tally_counts t a requests counts)
+unfoldable pub answers_by : Loaded → State → List ℕ → List ℕ → List ℕ
+answers_by l a requests lent = cond (eqb l.number 0) (run_answers l.tables a requests lent) lent
+
+-- what a run by a book returns, and the history, the levels and the answer bytes afterwards
+pub record RunBy (l : Loaded) (a : State) (requests lent : List ℕ) (r : ℕ) (left : State) (written : List ℕ) : Type 0 where
+  pub returned : r ≡ ran_packed (ran_by l a requests lent)
+  pub after : left ≡ state_by l a requests lent
+  pub answers : written ≡ answers_by l a requests lent
+
+-- what a tally by a book returns, and the history, the levels and the counts afterwards: what it does with the tables of a book that loads,
+-- and nothing with a refused one
+pub record TallyBy (l : Loaded) (a : State) (requests counts : List ℕ) (r : ℕ) (left : State) (written : List ℕ) : Type 0 where
+  pub returned : r ≡ ran_packed (cond (eqb l.number 0) (tallied l.tables a requests counts) (no_run l.number))
+  pub after : left ≡ cond (eqb l.number 0) (tally_state l.tables a requests counts) a
+  pub others : written ≡ cond (eqb l.number 0) (tally_counts l.tables a requests counts) counts
 
 unfoldable pub standing_packed : Standing → ℕ
 standing_packed s = packed_standing s.number s.level.0 s.rights s.firms

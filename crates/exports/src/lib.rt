@@ -1,6 +1,7 @@
 // The calls of the access monitor for programs in C and Rust: byte slices and numbers only. Tables do not cross this boundary; a call
 // that needs them takes the bytes of the rulebook and loads it. A refused book is answered with its number, and then nothing changes.
 #![tactic(auto)]
+
 ghost use Rattle.std.specs.Prelude.{◌≡◌, ◌++◌, ◌≤◌, length, drop};
 ghost use Rattle.policy.specs.Rulebook.{load_book};
 ghost use Rattle.policy.specs.Calls.{state, rest_of};

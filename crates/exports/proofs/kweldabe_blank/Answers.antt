@@ -1,0 +1,16 @@
+-- `kweldabe_blank` is `blankBy` and leaves `blankedBy` of what loading returned: nothing changes for a refused book, and otherwise
+-- `loaded::blank` says both.
+use Rattle.exports.proofs.Books.{loaded_tables, blank_refused, blank_loaded}
+use Rattle.exports.proofs.kweldabe_blank.Lts as lts
+use borrow.Author.Rules.{rules}
+use Rattle.exports.proofs.kweldabe_blank.Goals as goal
+
+pub returns-then-given-ne-GRANTED : goal.returns-then-given-ne-GRANTED
+returns-then-given-ne-GRANTED c = blank_refused c.load-given.ensures c.if-given-ne-GRANTED.true _
+
+pub blank-requires : goal.blank-requires
+blank-requires c = loaded_tables _ c.load-given.ensures c.if-given-ne-GRANTED.false
+
+pub returns : goal.returns
+returns c =
+    blank_loaded c.load-given.ensures c.if-given-ne-GRANTED.false _ _ _ c.blank.ensures
