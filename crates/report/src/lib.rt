@@ -1,5 +1,6 @@
 // The text that reports the answers, written into a buffer: the lines of the requests, the totals, and what refuses a book or an input.
 #![tactic(auto)]
+
 ghost use Rattle.std.specs.Prelude.{◌+◌, ◌≤◌, length};
 ghost use Rattle.report.specs.Text.{decimal, number_then, two_numbers, line, totals, book_refused, too_long};
 ghost use Rattle.report.specs.Put.{Put, LinePut, LinesPut};
