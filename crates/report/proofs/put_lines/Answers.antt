@@ -12,8 +12,8 @@ loop-next-init c =
     let args = c.args in
     reached_start args.numbers.now args.first args.out.now
 
-pub returns-then-out-len-lt32 : goal.returns-then-out-len-lt32
-returns-then-out-len-lt32 c = reached_all c.loop-next.invariant (fitting_full _ _ _ (omega (arith, c.if-out-len-lt32.true, c.loop-next.invariant.same)))
+pub returns-then-out-len-lt-LINE : goal.returns-then-out-len-lt-LINE
+returns-then-out-len-lt-LINE c = reached_all c.loop-next.invariant (fitting_full _ _ _ (omega (arith, c.if-out-len-lt-LINE.true, c.loop-next.invariant.same)))
 
 pub loop-next-preserved : goal.loop-next-preserved
 loop-next-preserved c =
@@ -23,7 +23,7 @@ loop-next-preserved c =
     let below = c.loop-next-test.true in
     let put = c.put_line-len in
     let byte = c.type_inv.numbers reached.next in
-    let left = c.if-out-len-lt32.false in
+    let left = c.if-out-len-lt-LINE.false in
     let room : 32 ≤ length c.args.out.now - reached.len = omega (arith, left, reached.invariant.same) in
     let short = line_length (reached.next + 1) (get_or numbers reached.next 0) (omega (arith, below)) (omega (arith, byte)) in
     reached_more reached.invariant below room short put.auto.out put.ensures
