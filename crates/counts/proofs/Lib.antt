@@ -1,5 +1,2 @@
 pub mod FirmLaws
-pub mod Part
-pub mod PartSlice
-pub mod Counts
 pub mod CountLaws

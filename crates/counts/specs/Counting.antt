@@ -1,4 +1,5 @@
--- What the code on the counts of a tally computes (document 02, Point 7): one more at a firm and a number, and one more for each request read.
+-- What the code on the counts of a tally computes (document 02, Point 7): one more at a firm and a number, and one more for each request
+-- that is read.
 use Rattle.std.specs.Prelude.{ℕ, ◌+◌, ◌*◌, cond, List, [], ◌∷◌, ltb, get_or, set}
 use Rattle.policy.specs.declared.Tables.{Tables}
 use Rattle.policy.specs.Request.{request_of}

@@ -70,6 +70,7 @@ pub fn count_at(counts: &mut [u64], firm: usize, number: usize)
 }
 
 // One more at a firm and a number; nothing changes outside the 65 firms and the 32 numbers.
+#[tactic(auto, unfolding(crate::specs::Counting::with_one))]
 pub fn count_one(counts: &mut [u64], firm: usize, number: usize)
     ensures { counts.new ≡ with_one counts.old firm number }
 {

@@ -3,6 +3,7 @@
 // Only what a rule in force asks about is gathered. Persons are gathered as words: for each folder, then for each firm or right; these are
 // turned round into a set for each person (`grouping::turning`).
 #![tactic(auto)]
+
 ghost use Rattle.std.specs.Prelude.{◌≡◌, Bool, true, ◌%◌, ◌<◌, length, get_or};
 ghost use Rattle.bits.specs.Bits.{mask_below};
 ghost use Rattle.policy.specs.Tables.{person_declared};

@@ -1,5 +1,6 @@
 // A list of jobs as bytes for the code that plans, four for each: the list is lent as records, a slice of structs (document 02, Point 6).
 #![tactic(auto)]
+
 ghost use Rattle.std.specs.Prelude.{◌≡◌};
 ghost use Rattle.jobs.specs.Packing.{none_stored, stored, packed_jobs};
 
@@ -23,6 +24,7 @@ fn start(len: usize) -> Packed
 }
 
 // Stores the job at place i of the list, where there is room for it.
+#[tactic(auto, unfolding(crate::specs::Packing::stored, crate::specs::Packing::written))]
 fn store(p: Packed, i: usize, job: Job) -> Packed
     ensures { result ≡ stored p i job }
 {

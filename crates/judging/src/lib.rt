@@ -3,6 +3,7 @@
 // the folders of the request's class, for roles the rights that the person used, until no role holds them, for the pipeline the steps on
 // the folder; and nothing once a rule has refused.
 #![tactic(auto)]
+
 ghost use Rattle.std.specs.Prelude.{◌≡◌, true, cond, ◌%◌, length};
 ghost use Rattle.bits.specs.Bits.{with_bit};
 ghost use Rattle.policy.specs.Tables.{person_declared, folder_declared};

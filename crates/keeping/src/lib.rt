@@ -2,6 +2,7 @@
 // fails is found, and what a granted request changes is brought up to date, in a step whose cost does not depend on the history. No jump
 // tells kinds or answers apart: which comes next cannot be foreseen, and a wrong guess costs more than all the rest.
 #![tactic(auto)]
+
 ghost use Rattle.std.specs.Prelude.{◌≡◌, Bool, cond, ◌<◌, length};
 ghost use Rattle.policy.specs.History.{history_bytes};
 ghost use Rattle.policy.specs.Request.{Request};

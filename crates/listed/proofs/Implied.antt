@@ -10,11 +10,11 @@ module _ (a b e p : Bool) {inner outer : Bool} (first : inner ≡ b && e) (all :
   joined : a && (b && e) ≡ outer
   joined = ap (λ (x : Bool). a && x) (sym first) ∙ sym all
 
-  pub passes_unasked : not outer ≡ true → true ≡ ((a && (b && e)) implies p)
-  passes_unasked n = rw (joined ∙ not-true outer n)
+  pub passes_unasked : outer ≡ false → true ≡ ((a && (b && e)) implies p)
+  passes_unasked n = rw (joined ∙ n)
 
-  pub passes_asked : not outer ≡ false → p ≡ ((a && (b && e)) implies p)
-  passes_asked n = rw (joined ∙ not-false outer n)
+  pub passes_asked : outer ≡ true → p ≡ ((a && (b && e)) implies p)
+  passes_asked n = rw (joined ∙ n)
 
 -- a job about which no rule on pairs asks may come before every job
 pub unasked : (x y : Side) → x.lowers || x.steps ≡ false → precedes x y ≡ true

@@ -1,6 +1,7 @@
 // The calls of the access monitor on tables that a load gives (document 01, "Requests and calls", and document 02): the check for 11 is not
 // asked again of tables that were just loaded. Crate `monitor` asks it of any tables.
 #![tactic(auto)]
+
 ghost use Rattle.std.specs.Prelude.{◌≡◌, true};
 ghost use Rattle.policy.specs.Rulebook.{given};
 ghost use Rattle.policy.specs.Calls.{state, blank_number, blank_state, judge_number, put_state, standing as standingOf};

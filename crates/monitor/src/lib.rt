@@ -1,6 +1,7 @@
 // The calls of the access monitor (document 01, "Requests and calls", and document 02). Each ends, on every input, in a published number; a
 // call whose own number is not 0 changes no byte lent to it.
 #![tactic(auto)]
+
 ghost use Rattle.std.specs.Prelude.{◌≡◌};
 ghost use Rattle.policy.specs.Rulebook.{load_book};
 ghost use Rattle.policy.specs.Checks.{ladder};

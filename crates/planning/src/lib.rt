@@ -2,6 +2,7 @@
 // are bytes, four for each: action, person, target and step. They are sorted by the rules on pairs, and the order found is put once, on
 // copies of the history and of the levels.
 #![tactic(auto)]
+
 ghost use Rattle.std.specs.Prelude.{◌≡◌, true, ◌&&◌, ◌*◌, ◌≤◌, leb, length};
 ghost use Rattle.policy.specs.Rulebook.{given};
 ghost use Rattle.policy.specs.Calls.{state};

@@ -2,6 +2,7 @@
 // 18,944 bytes and 128 bytes of levels (`alone`); how many answers a run has, and where its whole records end. A granted request is
 // recorded, and a granted read or step lowers its person's level (document 02, Point 4).
 #![tactic(auto)]
+
 ghost use Rattle.std.specs.Prelude.{◌≡◌, cond, eqb};
 ghost use Rattle.policy.specs.Calls.{answers_due};
 ghost use Rattle.putting.specs.Running.{whole_end};

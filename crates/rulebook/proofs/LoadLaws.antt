@@ -123,6 +123,14 @@ module _ {book : List ℕ} {at : ℕ} {t : Tables} {r : Reading} {n : ℕ}
 abbrev pub Asked : Tables → Reading → ℕ → Type 0
 Asked t r n = ((r.kind ≡ 0 → ⊥) × (n ≡ number_of t r)) ⊎ ((r.kind ≡ 0) × (n ≡ end_number r.number t.steps))
 
+-- a record of a kind that is not 0
+pub asks : (t : Tables) (r : Reading) {n : ℕ} → (r.kind ≡ 0 → ⊥) → n ≡ number_of t r → Asked t r n
+asks t r other is = inl (other, is)
+
+-- the end record
+pub asks_end : (t : Tables) (r : Reading) {n : ℕ} → r.kind ≡ 0 → n ≡ end_number r.number t.steps → Asked t r n
+asks_end t r end is = inr (end, is)
+
 module _ (t : Tables) (r : Reading) where
   -- the end record asks nothing of the tables before its own checks
   own_number : r.kind ≡ 0 → number_of t r ≡ r.number

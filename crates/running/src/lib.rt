@@ -1,6 +1,7 @@
 // A run of requests (document 01, "Requests and calls"), on tables that a load gives, a history of 18,944 bytes and 128 bytes of levels:
 // few of them each alone (`putting`), and many by what is gathered once and kept (`kept`).
 #![tactic(auto)]
+
 ghost use Rattle.std.specs.Prelude.{◌≡◌, ◌≤◌, length};
 ghost use Rattle.policy.specs.Calls.{state, answers_due};
 ghost use Rattle.questions.specs.Judging.{Ready};

@@ -1,6 +1,7 @@
 // A run over the counts of a tally (document 02, Point 7), on tables that a load gives: few requests each alone, and many by what is
 // gathered once and kept (`kept`). No answer is written; of few requests the answers stand in eight bytes until they are counted.
 #![tactic(auto)]
+
 ghost use Rattle.std.specs.Prelude.{◌≡◌, true, ◌≤◌, length, drop};
 ghost use Rattle.policy.specs.Rulebook.{given};
 ghost use Rattle.policy.specs.Calls.{state, calls_of, answers_due};

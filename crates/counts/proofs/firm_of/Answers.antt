@@ -2,8 +2,6 @@
 use mathlib.Core.Path.{sym, ap, ◌∙◌}
 use mathlib.Core.Bool.{Bool, cond}
 use Rattle.counts.proofs.FirmLaws.{counted}
-use Rattle.counts.proofs.firm_of.Lts as lts
-use borrow.Author.Rules.{rules}
 use Rattle.counts.proofs.firm_of.Goals as goal
 
 pub returns-then-both : goal.returns-then-both

@@ -3,9 +3,7 @@ use native.Mathlib.Omega.{arith}
 use mathlib.Core.Path.{◌≡◌, refl}
 use mathlib.Core.Bool.{Bool, true, false, ◌||◌}
 use borrow.Author.Tests.{eqb-false, eq-eqb, ne_eqb}
-use Rattle.counts.proofs.names_folder.Lts as lts
 -- one of the first two holds
-use borrow.Author.Rules.{rules}
 use Rattle.counts.proofs.names_folder.Goals as goal
 
 first_two : (a b c : Bool) → (a ≡ false → b ≡ true) → true ≡ (a || b || c)

@@ -1,8 +1,6 @@
 -- `raise` gives a count with one more; the largest stays, so that the sum passes no machine number.
 use borrow.Author.Tests.{eq-eqb, ne_eqb}
 use Rattle.policy.specs.Tallies.{raised}
-use Rattle.counts.proofs.raise.Lts as lts
-use borrow.Author.Rules.{rules}
 use Rattle.counts.proofs.raise.Goals as goal
 
 pub returns-then-count-eq-LARGEST : goal.returns-then-count-eq-LARGEST

@@ -1,7 +1,6 @@
 -- `finish` makes a book that passed.
 use mathlib.Core.Path.{refl}
 use Rattle.rulebook.specs.Readings.{passed_book}
-use borrow.Author.Rules.{rules}
 use Rattle.rulebook.proofs.finish.Goals as goal
 
 pub returns : goal.returns

@@ -3,18 +3,10 @@ use mathlib.Core.Bool.{not}
 use mathlib.Core.Path.{refl, ap, ◌∙◌}
 use lib.Dec.{leb}
 use Rattle.rulebook.proofs.EntryLaws.{both_are, given_is}
-use borrow.Author.Rules.{rules}
 use Rattle.rulebook.proofs.given.Goals as goal
 
 pub returns : goal.returns
 returns c =
-    let loose = c in
-    let circle = c in
-    let create = c in
-    let roles = c in
-    let folders = c in
-    let persons = c in
-    let firms = c in
     let t = c.args.t in
     let until-firms = both_are {a = leb t.mask 15} c.both-good.ensures refl c.firms_given.ensures in
     let until-persons = both_are c.both-good-2.ensures until-firms c.persons_given.ensures in

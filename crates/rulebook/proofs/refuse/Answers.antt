@@ -1,6 +1,5 @@
 -- `refuse` makes a refused book.
 use Rattle.policy.specs.Rulebook.{refused_book}
-use borrow.Author.Rules.{rules}
 use Rattle.rulebook.proofs.refuse.Goals as goal
 
 pub returns : goal.returns

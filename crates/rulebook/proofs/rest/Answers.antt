@@ -1,7 +1,6 @@
 -- `rest` starts after the end record, which lies in the book; for a refused book it starts at the end.
 use native.Mathlib.Omega.{arith}
 use Rattle.rulebook.proofs.RestLaws.{inside, none_left, rest_left}
-use borrow.Author.Rules.{rules}
 use Rattle.rulebook.proofs.rest.Goals as goal
 
 pub returns-then-loaded-ne-GRANTED : goal.returns-then-loaded-ne-GRANTED

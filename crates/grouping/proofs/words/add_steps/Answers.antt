@@ -2,11 +2,11 @@
 use Prim.Native.Nat.{◌-◌, ◌≤◌}
 use native.Mathlib.Omega.{arith}
 use mathlib.Core.Path.{◌≡◌, ◌∙◌}
-use mathlib.Core.Logic.{⊎_elim}
 use Rattle.grouping.specs.Adding.{Added, applied_in}
 use Rattle.grouping.proofs.AddingLaws.{folders_none, folders_more, folders_same}
 use borrow.Author.Rules.{rules}
 use Rattle.grouping.proofs.words.add_steps.Goals as goal
+use Rattle.grouping.proofs.words.add_steps.Goals.{then-groups-o-lt64, else-groups-o-lt64}
 
 pub loop-o-init : goal.loop-o-init
 loop-o-init c = (search rules, folders_none _ _ _)
@@ -21,8 +21,11 @@ pub loop-o-preserved : goal.loop-o-preserved
 loop-o-preserved c =
     let looped = c.loop-o in (
       search rules,
-      ⊎_elim (λ w. folders_more _ _ looped.o looped.invariant.1 w.0.taken (rw w.3 w.2.ensures))
-          (λ w. folders_same _ _ looped.o (rw w.1 looped.invariant.1) w.0.left) c.if-groups-o-lt64.branch,
+      elim c.if-groups-o-lt64.branch [
+        then-groups-o-lt64 w ↦
+            folders_more _ _ looped.o looped.invariant.1 w.if-groups-o-lt64.true (rw w.sets-is w.add_steps_on.ensures)
+        | else-groups-o-lt64 w ↦ folders_same _ _ looped.o (rw w.sets-is looped.invariant.1) w.if-groups-o-lt64.false
+      ],
     )
 
 pub returns : goal.returns

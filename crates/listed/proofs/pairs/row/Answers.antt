@@ -28,7 +28,7 @@ loop-j-preserved c =
       search rules,
       mask_step j _ c.loop-j.invariant.1
           (c.with_bit64_if-kept.ensures
-          ∙ ap₂ (λ (add : Bool) (k : ℕ). cond add (with_bit c.loop-j.auto k) c.loop-j.auto)
+          ∙ ap₂ (λ (add : Bool) (k : ℕ). cond add (with_bit c.loop-j.kept k) c.loop-j.kept)
           (ap not c.may_precede.ensures) (mod-eq_of_lt (omega arith))),
     )
 

@@ -7,12 +7,12 @@ use Rattle.questions.proofs.known.compared_number.Goals as goal
 
 pub returns-in-AtMost : goal.returns-in-AtMost
 unfolding outcome_number
-returns-in-AtMost c = ap outcome_number (sym c.enum_told-1.given.1 ∙ c.compare-outcome.ensures)
+returns-in-AtMost c = ap outcome_number (sym c.in-AtMost.is ∙ c.compare-outcome.ensures)
 
 pub returns-in-RankTooLow : goal.returns-in-RankTooLow
 unfolding outcome_number
-returns-in-RankTooLow c = ap outcome_number (sym c.enum_told-in-RankTooLow-1.given.1 ∙ c.compare-outcome.ensures)
+returns-in-RankTooLow c = ap outcome_number (sym c.in-RankTooLow.is ∙ c.compare-outcome.ensures)
 
 pub returns-in-CompartmentMissing : goal.returns-in-CompartmentMissing
 unfolding outcome_number
-returns-in-CompartmentMissing c = ap outcome_number (sym c.enum_told-in-CompartmentMissing-1.given.1 ∙ c.compare-outcome.ensures)
+returns-in-CompartmentMissing c = ap outcome_number (sym c.in-CompartmentMissing.is ∙ c.compare-outcome.ensures)

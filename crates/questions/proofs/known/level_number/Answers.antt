@@ -13,7 +13,7 @@ pub returns-then-not-asks : goal.returns-then-not-asks
 returns-then-not-asks c =
     let args = c.args in
     sym
-    (not_asked (bit args.mask low_water_rule) args.asks args.level.0 args.stored.0 (not-true args.asks c.if-not-asks.true))
+    (not_asked (bit args.mask low_water_rule) args.asks args.level.0 args.stored.0 (c.if-not-asks.true))
 
 pub returns-then-not-bit8 : goal.returns-then-not-bit8
 returns-then-not-bit8 c = rw (sym c.bit8.ensures ∙ c.if-not-bit8.true)
@@ -21,6 +21,6 @@ returns-then-not-bit8 c = rw (sym c.bit8.ensures ∙ c.if-not-bit8.true)
 pub returns : goal.returns
 unfolding outcome_if
 returns c =
-    let asks = not-false c.args.asks c.if-not-asks.false in
+    let asks = c.if-not-asks.false in
     rw (sym c.bit8.ensures ∙ c.if-not-bit8.false, asks)
     c.compared_number.ensures

@@ -1,6 +1,5 @@
 -- `empty` makes the tables of the empty book.
 use Rattle.policy.specs.Tables.{empty_tables}
-use borrow.Author.Rules.{rules}
 use Rattle.rulebook.proofs.entries.empty.Goals as goal
 
 pub returns : goal.returns

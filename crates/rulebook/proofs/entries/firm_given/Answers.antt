@@ -1,6 +1,5 @@
--- `entries::firm_given` tests one entry as `firmGiven` does.
+-- `entries::firm_given` tests one entry as `firm_given` does.
 use Rattle.policy.specs.Rulebook.{firm_given}
-use borrow.Author.Rules.{rules}
 use Rattle.rulebook.proofs.entries.firm_given.Goals as goal
 
 pub returns-then-f : goal.returns-then-f

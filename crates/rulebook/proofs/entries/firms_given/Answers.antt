@@ -1,12 +1,8 @@
 -- `entries::firms_given` asks of each entry in turn.
-use Prim.Native.Nat.{◌≤◌, ◌-◌, zero-le}
+use Prim.Native.Nat.{zero-le}
 use native.Mathlib.Omega.{arith}
 use mathlib.Core.Path.{◌≡◌, sym, ◌∙◌}
-use lib.ListN.{get_or}
-use Rattle.bits.specs.Bounded.{all_below}
 use Rattle.bits.proofs.Bounds.{all_start}
-use Rattle.policy.specs.Tables.{no_firm}
-use Rattle.policy.specs.Rulebook.{firm_given}
 use Rattle.rulebook.specs.Entries.{firms_given}
 use Rattle.rulebook.proofs.TurnLaws.{all_turn}
 use borrow.Author.Rules.{rules}

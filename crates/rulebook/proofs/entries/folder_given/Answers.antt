@@ -1,6 +1,5 @@
--- `entries::folder_given` tests one entry as `folderGivenBy` does.
+-- `entries::folder_given` tests one entry as `folder_given_by` does.
 use Rattle.rulebook.specs.Entries.{folder_given_by}
-use borrow.Author.Rules.{rules}
 use Rattle.rulebook.proofs.entries.folder_given.Goals as goal
 
 pub returns-then-o : goal.returns-then-o

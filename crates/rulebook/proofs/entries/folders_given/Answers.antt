@@ -1,11 +1,8 @@
 -- `entries::folders_given` asks of each entry in turn, with the mark of the folder's firm.
-use Prim.Native.Nat.{◌≤◌, ◌-◌, zero-le}
+use Prim.Native.Nat.{zero-le}
 use native.Mathlib.Omega.{arith}
 use mathlib.Core.Path.{◌≡◌, sym, ◌∙◌}
-use lib.ListN.{get_or}
-use Rattle.bits.specs.Bounded.{all_below}
 use Rattle.bits.proofs.Bounds.{all_start}
-use Rattle.policy.specs.Tables.{no_folder}
 use Rattle.rulebook.specs.Entries.{folder_given_among, folders_given}
 use Rattle.rulebook.proofs.TurnLaws.{all_turn}
 use borrow.Author.Rules.{rules}

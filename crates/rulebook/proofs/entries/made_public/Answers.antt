@@ -1,7 +1,6 @@
 -- `entries::made_public` changes the mark alone.
 use mathlib.Core.Path.{refl}
 use Rattle.policy.specs.Rulebook.{made_public}
-use borrow.Author.Rules.{rules}
 use Rattle.rulebook.proofs.entries.made_public.Goals as goal
 
 pub returns : goal.returns

@@ -1,6 +1,5 @@
--- `entries::person_given` tests one entry as `personGiven` does.
+-- `entries::person_given` tests one entry as `person_given` does.
 use Rattle.policy.specs.Rulebook.{person_given}
-use borrow.Author.Rules.{rules}
 use Rattle.rulebook.proofs.entries.person_given.Goals as goal
 
 pub returns-then-s : goal.returns-then-s

@@ -1,12 +1,8 @@
 -- `entries::persons_given` asks of each entry in turn.
-use Prim.Native.Nat.{◌≤◌, ◌-◌, zero-le}
+use Prim.Native.Nat.{zero-le}
 use native.Mathlib.Omega.{arith}
 use mathlib.Core.Path.{◌≡◌, sym, ◌∙◌}
-use lib.ListN.{get_or}
-use Rattle.bits.specs.Bounded.{all_below}
 use Rattle.bits.proofs.Bounds.{all_start}
-use Rattle.policy.specs.Tables.{no_person}
-use Rattle.policy.specs.Rulebook.{person_given}
 use Rattle.rulebook.specs.Entries.{persons_given}
 use Rattle.rulebook.proofs.TurnLaws.{all_turn}
 use borrow.Author.Rules.{rules}

@@ -1,6 +1,5 @@
--- `entries::role_given` tests one entry as `roleGiven` does.
+-- `entries::role_given` tests one entry as `role_given` does.
 use Rattle.policy.specs.Rulebook.{role_given}
-use borrow.Author.Rules.{rules}
 use Rattle.rulebook.proofs.entries.role_given.Goals as goal
 
 pub returns-then-k : goal.returns-then-k

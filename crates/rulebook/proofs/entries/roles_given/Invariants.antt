@@ -1,14 +1,10 @@
 -- `entries::roles_given` asks of each entry in turn.
-use Prim.Native.Nat.{◌≤◌, ◌-◌, zero-le}
-use native.Mathlib.Omega.{arith}
-use mathlib.Core.Path.{◌≡◌, sym, ◌∙◌}
+use Prim.Native.Nat.{◌≤◌, ◌-◌}
+use mathlib.Core.Path.{◌≡◌}
 use lib.ListN.{get_or}
 use Rattle.bits.specs.Bounded.{all_below}
-use Rattle.bits.proofs.Bounds.{all_start}
 use Rattle.policy.specs.Tables.{no_role}
 use Rattle.policy.specs.Rulebook.{role_given}
-use Rattle.rulebook.specs.Entries.{roles_given}
-use Rattle.rulebook.proofs.TurnLaws.{all_turn}
 use Rattle.rulebook.proofs.entries.roles_given.Given as goal
 
 abbrev pub invariant-loop-k : goal.invariant-loop-k

@@ -1,6 +1,5 @@
 -- `records::declared_number` gives 5 where the number is declared, and else 0.
 use Rattle.policy.specs.Checks.{ladder}
-use borrow.Author.Rules.{rules}
 use Rattle.rulebook.proofs.records.declared_number.Goals as goal
 
 pub returns-then-declared : goal.returns-then-declared

@@ -1,6 +1,5 @@
 -- `records::naming_number` asks in the order of the checks: what is declared already, then what stands earlier.
 use Rattle.policy.specs.Checks.{ladder}
-use borrow.Author.Rules.{rules}
 use Rattle.rulebook.proofs.records.naming_number.Goals as goal
 
 pub returns-then-declared : goal.returns-then-declared

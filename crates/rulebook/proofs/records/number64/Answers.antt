@@ -1,13 +1,10 @@
 -- `records::number64` adds four numbers of two bytes up as the little-endian number of the eight.
 use native.Mathlib.Omega.{arith}
 use Rattle.rulebook.proofs.ByteLaws.{eight_bytes}
-use borrow.Author.Rules.{rules}
 use Rattle.rulebook.proofs.records.number64.Goals as goal
 
 pub returns : goal.returns
 returns c =
-    let first = c in
-    let start = c in
     omega (
       arith,
       eight_bytes c.args.at c.args.book.now,

@@ -2,7 +2,6 @@
 use mathlib.Core.Path.{sym, ◌∙◌}
 use borrow.Author.Tests.{eq-eqb, ne_eqb}
 use Rattle.policy.specs.Checks.{ladder}
-use borrow.Author.Rules.{rules}
 use Rattle.rulebook.proofs.records.pair_number.Goals as goal
 
 pub returns-then-bit16 : goal.returns-then-bit16

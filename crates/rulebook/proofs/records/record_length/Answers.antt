@@ -1,44 +1,42 @@
 -- `records::record_length` gives the length that the definition looks up, and 1 for the kind byte; past the last kind the body has none.
-use Rattle.policy.specs.Rulebook.{body_length}
-use Rattle.rulebook.proofs.KindLaws.{past_last, length_past}
-use borrow.Author.Rules.{rules}
+use Rattle.std.proofs.Common.{◌<◌, arith}
+use Rattle.policy.specs.Rulebook.{last_kind, body_length}
+use Rattle.rulebook.proofs.KindLaws.{length_past}
 use Rattle.rulebook.proofs.records.record_length.Goals as goal
 
 pub returns-in-0 : goal.returns-in-0
 unfolding body_length
-returns-in-0 c = rw c.in-0.keys1
+returns-in-0 c = rw c.in-0.is
 
 pub returns-in-1 : goal.returns-in-1
 unfolding body_length
-returns-in-1 c = rw c.in-1.keys2
+returns-in-1 c = rw c.in-1.is
 
 pub returns-in-2 : goal.returns-in-2
 unfolding body_length
-returns-in-2 c = rw c.in-2.keys3
+returns-in-2 c = rw c.in-2.is
 
 pub returns-in-3 : goal.returns-in-3
 unfolding body_length
-returns-in-3 c = rw c.in-3.keys4
+returns-in-3 c = rw c.in-3.is
 
 pub returns-in-4 : goal.returns-in-4
 unfolding body_length
-returns-in-4 c = rw c.in-4.keys5
+returns-in-4 c = rw c.in-4.is
 
 pub returns-in-5 : goal.returns-in-5
 unfolding body_length
-returns-in-5 c = rw c.in-5.keys6
+returns-in-5 c = rw c.in-5.is
 
 pub returns-in-6 : goal.returns-in-6
 unfolding body_length
-returns-in-6 c = rw c.in-6.keys7
+returns-in-6 c = rw c.in-6.is
 
 pub returns-in-7 : goal.returns-in-7
 unfolding body_length
-returns-in-7 c = rw c.in-7.keys8
+returns-in-7 c = rw c.in-7.is
 
 pub returns-in-8-to-255 : goal.returns-in-8-to-255
 returns-in-8-to-255 c =
-    let rest = c.in-8-to-255.rest in
-    let above = past_last _ rest.0.0.0.0.0.0.0.1 rest.0.0.0.0.0.0.1 rest.0.0.0.0.0.1 rest.0.0.0.0.1
-    rest.0.0.0.1 rest.0.0.1 rest.0.1 rest.1 in
+    let above : last_kind < c.args.kind = omega arith in
     rw (length_past _ above)

@@ -1,10 +1,9 @@
 -- `steps::close` closes the sets by one step more in each turn.
-use Prim.Native.Nat.{◌≤◌, ◌-◌, zero-le}
+use Prim.Native.Nat.{zero-le}
 use native.Mathlib.Numerals.{add-one}
 use native.Mathlib.Omega.{arith}
 use mathlib.Core.Path.{◌≡◌, refl, ap, ◌∙◌}
 use Rattle.rulebook.specs.Steps.{through, closed}
-use borrow.Author.Rules.{rules}
 use Rattle.rulebook.proofs.steps.close.Goals as goal
 
 pub loop-k-init : goal.loop-k-init

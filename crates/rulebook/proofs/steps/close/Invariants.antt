@@ -1,9 +1,7 @@
 -- `steps::close` closes the sets by one step more in each turn.
-use Prim.Native.Nat.{◌≤◌, ◌-◌, zero-le}
-use native.Mathlib.Numerals.{add-one}
-use native.Mathlib.Omega.{arith}
-use mathlib.Core.Path.{◌≡◌, refl, ap, ◌∙◌}
-use Rattle.rulebook.specs.Steps.{through, closed}
+use Prim.Native.Nat.{◌≤◌, ◌-◌}
+use mathlib.Core.Path.{◌≡◌}
+use Rattle.rulebook.specs.Steps.{closed}
 use Rattle.rulebook.proofs.steps.close.Given as goal
 
 abbrev pub invariant-loop-k : goal.invariant-loop-k

@@ -1,10 +1,6 @@
 -- `steps::enabled` joins set after set: after p turns it has the steps that some step below p enables.
-use Prim.Native.Nat.{ℕ, ◌≤◌, ◌-◌, zero-le}
-use native.Mathlib.Omega.{arith}
-use mathlib.Core.Path.{◌≡◌, refl, sym, ap, ◌∙◌}
-use lib.Bits.{bit_or}
-use lib.ListN.{get_or}
-use Rattle.bits.proofs.Bounds.{fold_start, fold_step}
+use Prim.Native.Nat.{◌≤◌, ◌-◌}
+use mathlib.Core.Path.{◌≡◌}
 use Rattle.rulebook.specs.Steps.{enabled_below}
 use Rattle.rulebook.proofs.steps.enabled.Given as goal
 

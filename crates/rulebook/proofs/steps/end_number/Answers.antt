@@ -3,7 +3,6 @@
 use mathlib.Core.Path.{sym, ◌∙◌}
 use borrow.Author.Tests.{eq-eqb, ne_eqb}
 use Rattle.rulebook.specs.Steps.{end_number}
-use borrow.Author.Rules.{rules}
 use Rattle.rulebook.proofs.steps.end_number.Goals as goal
 
 pub returns-then-number-ne-GRANTED : goal.returns-then-number-ne-GRANTED

@@ -2,7 +2,6 @@
 use Prim.Native.Nat.{ℕ}
 use mathlib.Core.Path.{ap, ◌∙◌}
 use Rattle.bits.specs.Bits.{bit}
-use borrow.Author.Rules.{rules}
 use Rattle.rulebook.proofs.steps.enters_create.Goals as goal
 
 pub returns : goal.returns

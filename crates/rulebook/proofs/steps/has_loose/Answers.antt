@@ -1,9 +1,7 @@
 -- `steps::has_loose` asks of each step in turn; a step's number is below 16, so it is itself modulo 16.
-use Prim.Native.Nat.{◌≤◌, ◌<◌, ◌-◌, zero-le}
+use Prim.Native.Nat.{◌<◌, zero-le}
 use native.Mathlib.Omega.{arith}
 use mathlib.Core.Path.{◌≡◌, sym, ◌∙◌}
-use lib.ListN.{get_or}
-use Rattle.bits.specs.Bounded.{any_below}
 use Rattle.bits.proofs.Bounds.{any_start}
 use Rattle.rulebook.specs.Steps.{loose_among, loose_in}
 use Rattle.rulebook.proofs.TurnLaws.{any_turn, within}

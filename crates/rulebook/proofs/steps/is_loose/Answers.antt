@@ -1,9 +1,8 @@
--- `steps::is_loose` tests in the order of `looseAmong`: the first test that fails makes the whole false.
+-- `steps::is_loose` tests in the order of `loose_among`: the first test that fails makes the whole false.
 use mathlib.Core.Bool.{not}
 use mathlib.Core.Path.{ap}
 use borrow.Author.Tests.{eq-eqb, ne_eqb}
 use Rattle.rulebook.specs.Steps.{loose_among}
-use borrow.Author.Rules.{rules}
 use Rattle.rulebook.proofs.steps.is_loose.Goals as goal
 
 pub returns-then-p-eq0 : goal.returns-then-p-eq0

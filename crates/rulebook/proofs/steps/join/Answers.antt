@@ -1,7 +1,6 @@
 -- `steps::join` joins two sets where k is in the first, as `joined` says.
 use mathlib.Core.Path.{sym, ◌∙◌}
 use Rattle.rulebook.specs.Steps.{joined}
-use borrow.Author.Rules.{rules}
 use Rattle.rulebook.proofs.steps.join.Goals as goal
 
 pub returns-then-bit16 : goal.returns-then-bit16

@@ -1,11 +1,8 @@
 -- `steps::join_through` maps the sets in place: each turn joins one set more.
-use Prim.Native.Nat.{◌≤◌, ◌<◌, ◌-◌, zero-le}
-use native.Mathlib.Omega.{arith}
-use mathlib.Core.Path.{◌≡◌, ◌∙◌}
-use lib.ListN.{length, get_or}
-use Rattle.rulebook.specs.Steps.{joined, through}
-use Rattle.rulebook.proofs.MapLaws.{mapped, mapped_none, mapped_all, mapped_at, mapped_more}
-use Rattle.rulebook.proofs.TurnLaws.{within}
+use Prim.Native.Nat.{◌≤◌, ◌-◌}
+use mathlib.Core.Path.{◌≡◌}
+use Rattle.rulebook.specs.Steps.{joined}
+use Rattle.rulebook.proofs.MapLaws.{mapped}
 use Rattle.rulebook.proofs.steps.join_through.Given as goal
 
 abbrev pub invariant-loop-p : goal.invariant-loop-p

@@ -1,0 +1,13 @@
+-- `done_on` answers the steps done: none where nobody of the persons stepped on the folder.
+use mathlib.Core.Path.{◌∙◌}
+use Rattle.gathering.proofs.GatheredLaws.{none_done}
+use borrow.Author.Rules.{rules}
+use Rattle.gathering.proofs.done_on.Goals as goal
+
+pub returns-then-steppers-persons-eq0 : goal.returns-then-steppers-persons-eq0
+returns-then-steppers-persons-eq0 c =
+    let known = c.shared_slice_known-1 in
+    none_done _ _ _ _ (λ k. (known.given k).fits) c.steppers.ensures c.if-steppers-persons-eq0.true
+
+pub returns : goal.returns
+returns c = c.word16.ensures.0 ∙ c.steps_done.ensures

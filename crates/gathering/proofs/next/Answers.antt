@@ -1,0 +1,14 @@
+-- `next` answers the steps that may be next, if the pipeline is in force.
+use mathlib.Core.Path.{refl, sym, ◌∙◌}
+use borrow.Author.Tests.{not-true}
+use Rattle.policy.specs.Tables.{in_force}
+use Rattle.gathering.proofs.GatheredLaws.{unasked, has_next}
+use borrow.Author.Rules.{rules}
+use Rattle.gathering.proofs.next.Goals as goal
+
+pub returns-then-not-bit8 : goal.returns-then-not-bit8
+unfolding in_force
+returns-then-not-bit8 c = λ H kept. unasked _ _ _ _ _ _ (sym c.bit8.ensures ∙ c.if-not-bit8.true) refl
+
+pub returns : goal.returns
+returns c = has_next _ _ _ _ refl c.next_by.ensures

@@ -1,0 +1,9 @@
+-- `holders_of` answers the persons outside the users of the rights beyond those given.
+use Rattle.gathering.proofs.RoleLaws.{holds_is}
+use borrow.Author.Rules.{rules}
+use Rattle.gathering.proofs.roles.holders_of.Goals as goal
+
+pub returns : goal.returns
+returns c =
+    let start = c in
+    holds_is _ _ _ _ c.requires c.outside.ensures _ _ c.among.ensures c.outside-2.ensures

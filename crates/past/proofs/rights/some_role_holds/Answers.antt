@@ -1,0 +1,7 @@
+-- `rights::some_role_holds` asks for a role that holds the rights and the new one.
+use mathlib.Core.Path.{◌∙◌}
+use borrow.Author.Rules.{rules}
+use Rattle.past.proofs.rights.some_role_holds.Goals as goal
+
+pub returns : goal.returns
+returns c = c.lowest_role.ensures.1 ∙ rw c.with_bit64.ensures

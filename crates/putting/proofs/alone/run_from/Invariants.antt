@@ -1,0 +1,26 @@
+-- `run_from` ends a run that has begun: whatever run it is, what is written and what the rest of the requests gives on the history and the
+-- levels so far are at each turn what the whole run gives.
+use Prim.Native.Nat.{ℕ, ◌-◌, ◌<◌}
+use native.Mathlib.Omega.{arith}
+use mathlib.Core.Path.{◌≡◌, sym, ◌∙◌, subst}
+use mathlib.Core.List.{List}
+use lib.ListN.{length, drop, length-set}
+use borrow.Author.Rules.{part_to_end}
+use Rattle.policy.specs.Calls.{State, state}
+use Rattle.questions.specs.Judging.{Ready}
+use Rattle.putting.specs.Running.{Done, Room}
+use Rattle.putting.proofs.Records.{next_at_within, next_at_further, due_at}
+use Rattle.putting.proofs.Turns.{as_turned, ready_put, granted_one, done_more, done_all, room_more}
+use Rattle.putting.proofs.PutAlone.{granted_fits}
+use Rattle.putting.proofs.alone.run_from.Lts as lts
+use Rattle.putting.proofs.alone.run_from.Given as goal
+
+abbrev pub invariant-loop-at : goal.invariant-loop-at
+invariant-loop-at l =
+    Room l.requests (length l.initial.answers) l.at l.i l.granted × (length l.answers ≡ length l.initial.answers) × Ready l.t l.h l.l
+    × ((a : State) (room : List ℕ) → length room ≡ length l.initial.answers → Done l.t a l.requests room l.initial.at l.initial.i l.initial.granted (state l.initial.h l.initial.l) l.initial.answers
+    → Done l.t a l.requests room l.at l.i l.granted (state l.h l.l) l.answers)
+
+abbrev pub decreases-loop-at : goal.decreases-loop-at
+decreases-loop-at l =
+    length l.requests - l.at
