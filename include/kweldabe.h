@@ -1,5 +1,5 @@
 /* The access monitor of document 01, with Points 1 to 6 of document 02, for C. The functions are in libexports.a, which
- * `rt staticlib exports` writes.
+ * `rt lib` writes in crates/exports.
  *
  * Bytes are lent as a pointer and a length. A pointer is never null, also where the length is 0, and points to as many readable bytes
  * as the length says. What is lent for writing (history and levels in blank, put and run; answers; positions) overlaps nothing else that

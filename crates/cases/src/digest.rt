@@ -12,10 +12,8 @@ fn with_byte(sum: u64, b: u8) -> u64 {
 // The digest of bytes.
 pub fn of_bytes(s: &[u8]) -> u64 {
     let mut sum = START;
-    let mut i = 0;
-    while i < s.len() {
-        sum = with_byte(sum, s[i]);
-        i += 1;
+    for b in s {
+        sum = with_byte(sum, *b);
     }
     sum
 }
@@ -39,11 +37,9 @@ fn with_pair(sum: u64, n: u16) -> u64 {
 fn with_number(sum: u64, n: u64) -> u64 {
     let mut all = sum;
     let mut left = n;
-    let mut i: usize = 0;
-    while i < 8 {
+    for _ in 0..8 {
         all = with_byte(all, (left % 256) as u8);
         left /= 256;
-        i += 1;
     }
     all
 }

@@ -2,8 +2,10 @@
 // The format of the file and of the lines is that of reference/FORMAT.md; nothing is judged here. Of a longer input it takes the first
 // 458,752 bytes.
 #![tactic(auto)]
-use libc::STDIN_FILENO;
+
 use policy::Tables;
+use std::io;
+use std::io::Write;
 
 mod digest;
 mod fields;
@@ -18,7 +20,7 @@ const HISTORY: usize = 18960;
 const LEVELS: usize = 144;
 
 // Loads a book, prints its line, and answers the tables.
-fn play_load(book: &[u8]) -> Tables {
+fn play_load<W: Write>(book: &[u8], to: &mut W) -> io::Result<Tables> {
     let loaded = monitor::load(book);
     let left = monitor::rest(book);
     let t = loaded.tables;
@@ -28,39 +30,58 @@ fn play_load(book: &[u8]) -> Tables {
         left.len() as u64,
         digest::of_tables(t),
     ];
-    line::print(b"load", &numbers);
-    t
+    line::print(to, b"load", &numbers)?;
+    Ok(t)
 }
 
 // Blanks a history and levels, and prints its line.
-fn play_blank(t: Tables, s: &[u8], h: &mut [u8], l: &mut [u8]) {
+fn play_blank<W: Write>(
+    t: Tables,
+    s: &[u8],
+    h: &mut [u8],
+    l: &mut [u8],
+    to: &mut W,
+) -> io::Result<()> {
     let front = reading::front(reading::pair(s, 1), h);
     let held = reading::front(bits::wide(reading::byte(s, 3)), l);
     let number = monitor::blank(t, &mut h[..front], &mut l[..held]);
     let numbers = [number as u64, digest::of_bytes(h), digest::of_bytes(l)];
-    line::print(b"blank", &numbers);
+    line::print(to, b"blank", &numbers)
 }
 
 // Judges a request and prints its line.
-fn play_judge(t: Tables, s: &[u8], h: &[u8], l: &[u8]) {
+fn play_judge<W: Write>(t: Tables, s: &[u8], h: &[u8], l: &[u8], to: &mut W) -> io::Result<()> {
     let front = reading::front(reading::pair(s, 1), h);
     let held = reading::front(bits::wide(reading::byte(s, 3)), l);
     let number = monitor::judge(t, &h[..front], &l[..held], reading::after(s, 5));
     let numbers = [number as u64];
-    line::print(b"judge", &numbers);
+    line::print(to, b"judge", &numbers)
 }
 
 // Puts a request and prints its line.
-fn play_put(t: Tables, s: &[u8], h: &mut [u8], l: &mut [u8]) {
+fn play_put<W: Write>(
+    t: Tables,
+    s: &[u8],
+    h: &mut [u8],
+    l: &mut [u8],
+    to: &mut W,
+) -> io::Result<()> {
     let front = reading::front(reading::pair(s, 1), h);
     let held = reading::front(bits::wide(reading::byte(s, 3)), l);
     let number = monitor::put(t, &mut h[..front], &mut l[..held], reading::after(s, 5));
     let numbers = [number as u64, digest::of_bytes(h), digest::of_bytes(l)];
-    line::print(b"put", &numbers);
+    line::print(to, b"put", &numbers)
 }
 
 // Runs requests and prints the run's line.
-fn play_run(t: Tables, s: &[u8], h: &mut [u8], l: &mut [u8], answers: &mut [u8]) {
+fn play_run<W: Write>(
+    t: Tables,
+    s: &[u8],
+    h: &mut [u8],
+    l: &mut [u8],
+    answers: &mut [u8],
+    to: &mut W,
+) -> io::Result<()> {
     let front = reading::front(reading::pair(s, 1), h);
     let held = reading::front(bits::wide(reading::byte(s, 3)), l);
     let room = reading::front(reading::pair(s, 4), answers);
@@ -79,11 +100,11 @@ fn play_run(t: Tables, s: &[u8], h: &mut [u8], l: &mut [u8], answers: &mut [u8])
         digest::of_bytes(l),
         digest::of_bytes(answers),
     ];
-    line::print(b"run", &numbers);
+    line::print(to, b"run", &numbers)
 }
 
 // Asks for a person's standing and prints its line.
-fn play_standing(t: Tables, s: &[u8], h: &[u8], l: &[u8]) {
+fn play_standing<W: Write>(t: Tables, s: &[u8], h: &[u8], l: &[u8], to: &mut W) -> io::Result<()> {
     let front = reading::front(reading::pair(s, 1), h);
     let held = reading::front(bits::wide(reading::byte(s, 3)), l);
     let found = monitor::standing(t, &h[..front], &l[..held], reading::byte(s, 4));
@@ -94,11 +115,17 @@ fn play_standing(t: Tables, s: &[u8], h: &[u8], l: &[u8]) {
         found.rights as u64,
         found.firms as u64,
     ];
-    line::print(b"standing", &numbers);
+    line::print(to, b"standing", &numbers)
 }
 
 // Plans jobs, puts them in the order handed back, and prints the plan's line.
-fn play_plan(t: Tables, s: &[u8], h: &mut [u8], l: &mut [u8]) {
+fn play_plan<W: Write>(
+    t: Tables,
+    s: &[u8],
+    h: &mut [u8],
+    l: &mut [u8],
+    to: &mut W,
+) -> io::Result<()> {
     let front = reading::front(reading::pair(s, 1), h);
     let held = reading::front(bits::wide(reading::byte(s, 3)), l);
     let jobs = reading::after(s, 6);
@@ -113,7 +140,7 @@ fn play_plan(t: Tables, s: &[u8], h: &mut [u8], l: &mut [u8]) {
         digest::of_bytes(h),
         digest::of_bytes(l),
     ];
-    line::print(b"plan", &numbers);
+    line::print(to, b"plan", &numbers)
 }
 
 // Sets one byte of the history buffer.
@@ -134,69 +161,95 @@ fn play_level_byte(s: &[u8], l: &mut [u8]) {
 
 // Sets every byte of the answer buffer.
 fn play_fill(value: u8, answers: &mut [u8]) {
-    let mut i = 0;
-    while i < answers.len() {
-        answers[i] = value;
-        i += 1;
+    for x in answers.iter_mut() {
+        *x = value;
     }
 }
 
 // Plays a command that leaves the tables as they are.
-fn play_call(t: Tables, s: &[u8], h: &mut [u8], l: &mut [u8], answers: &mut [u8]) {
+fn play_call<W: Write>(
+    t: Tables,
+    s: &[u8],
+    h: &mut [u8],
+    l: &mut [u8],
+    answers: &mut [u8],
+    to: &mut W,
+) -> io::Result<()> {
     match reading::byte(s, 0) {
-        2 => play_blank(t, s, h, l),
-        3 => play_judge(t, s, h, l),
-        4 => play_put(t, s, h, l),
-        5 => play_run(t, s, h, l, answers),
-        6 => play_standing(t, s, h, l),
+        2 => return play_blank(t, s, h, l, to),
+        3 => return play_judge(t, s, h, l, to),
+        4 => return play_put(t, s, h, l, to),
+        5 => return play_run(t, s, h, l, answers, to),
+        6 => return play_standing(t, s, h, l, to),
         8 => play_byte(s, h),
         9 => play_fill(reading::byte(s, 1), answers),
         10 => play_level_byte(s, l),
-        11 => play_plan(t, s, h, l),
+        11 => return play_plan(t, s, h, l, to),
         _ => (),
     }
+    Ok(())
 }
 
 // Plays a command, and answers the tables after it.
-fn play(t: Tables, s: &[u8], h: &mut [u8], l: &mut [u8], answers: &mut [u8]) -> Tables {
+fn play<W: Write>(
+    t: Tables,
+    s: &[u8],
+    h: &mut [u8],
+    l: &mut [u8],
+    answers: &mut [u8],
+    to: &mut W,
+) -> io::Result<Tables> {
     let kind = reading::byte(s, 0);
     if kind == 1 {
-        return play_load(reading::after(s, 3));
+        return play_load(reading::after(s, 3), to);
     }
     if kind == 7 {
-        return fields::changed(
+        return Ok(fields::changed(
             t,
             reading::byte(s, 1),
             reading::byte(s, 2) as usize,
             reading::number(s, 3),
-        );
+        ));
     }
-    play_call(t, s, h, l, answers);
-    t
+    play_call(t, s, h, l, answers, to)?;
+    Ok(t)
 }
 
 // Plays the commands one after another, from the tables of the empty book.
-fn play_all(calls: &[u8], h: &mut [u8], l: &mut [u8], answers: &mut [u8]) {
+fn play_all<W: Write>(
+    calls: &[u8],
+    h: &mut [u8],
+    l: &mut [u8],
+    answers: &mut [u8],
+    to: &mut W,
+) -> io::Result<()> {
     let start = monitor::load(b"");
     let mut t = start.tables;
     let mut at = 0;
     while at < calls.len() {
         let len = reading::command(&calls[at..]);
         if len == 0 {
-            return;
+            return Ok(());
         }
         let next = at + len;
-        let u = play(t, &calls[at..next], h, l, answers);
-        t = u;
+        t = play(t, &calls[at..next], h, l, answers, to)?;
         at = next;
     }
+    Ok(())
 }
 
-fn main() {
+fn main(rt: HostRuntime) -> io::Result<()> {
     let mut calls = [0u8; 458752];
     let mut history = [0u8; HISTORY];
     let mut levels = [0u8; LEVELS];
     let mut answers = [0u8; 4096];
-    let n = io::read_full(STDIN_FILENO, &mut calls);
-    play_all(&calls[..n], &mut history, &mut levels, &mut answers);
+    let n = intake::fill(&mut rt.stdin(), &mut calls)?;
+    let mut to = rt.stdout();
+    play_all(
+        &calls[..n],
+        &mut history,
+        &mut levels,
+        &mut answers,
+        &mut to,
+    )
 }

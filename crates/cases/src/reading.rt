@@ -1,6 +1,6 @@
 // Reading the fields of commands. Every reader is total: past the end of the bytes it reads 0.
 ghost use Rattle.std.specs.Prelude.{◌<◌, ◌≤◌, length};
-ghost use Rattle.io.specs.Counts.{IsPrefixLen};
+ghost use Rattle.std.specs.Counts.{IsPrefixLen};
 
 // The smaller of two numbers.
 pub fn least(a: usize, b: usize) -> usize
@@ -40,9 +40,7 @@ pub fn pair(s: &[u8], at: usize) -> usize
 pub fn number(s: &[u8], at: usize) -> u64 {
     let t = after(s, at);
     let mut sum: u64 = 0;
-    let mut i: usize = 8;
-    while i > 0 {
-        i -= 1;
+    for i in (0..8).rev() {
         sum = (sum << 8) | byte(t, i) as u64;
     }
     sum

@@ -1,8 +1,15 @@
 // The text that reports the answers, written into a buffer: the lines of the requests, the totals, and what refuses a book or an input.
 #![tactic(auto)]
+
 ghost use Rattle.std.specs.Prelude.{◌+◌, ◌≤◌, length};
 ghost use Rattle.report.specs.Text.{decimal, number_then, two_numbers, line, totals, book_refused, too_long};
 ghost use Rattle.report.specs.Put.{Put, LinePut, LinesPut};
+
+// The least number that has two digits.
+const TWO_DIGITS: usize = 10;
+
+// The most bytes of a line that answers a request.
+const LINE: usize = 32;
 
 // The place of the first number whose line is not written, and the number of bytes that are.
 #[derive(Clone, Copy)]
@@ -29,7 +36,7 @@ fn put_decimal(out: &mut [u8], at: usize, n: usize) -> usize
     requires { at + length (decimal n) ≤ length out.old }
     ensures { Put out.old at (decimal n) out.new result }
 {
-    if n < 10 {
+    if n < TWO_DIGITS {
         out[at] = 48 + n as u8;
         return at + 1;
     }
@@ -71,7 +78,7 @@ pub fn put_lines(numbers: &[u8], first: usize, out: &mut [u8]) -> Filled
     let mut next = first;
     let mut len = 0;
     while next < numbers.len() {
-        if out.len() - len < 32 {
+        if out.len() - len < LINE {
             return Filled {
                 next: next,
                 len: len,

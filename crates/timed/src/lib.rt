@@ -8,6 +8,9 @@ ghost use Rattle.timed.specs.Timed.{level_by_reads};
 use level::Level;
 use packed::Words;
 
+// How many numbers persons have.
+const PERSONS: usize = 64;
+
 // The level after the folders that a person read, if `before` is the level before them. It stays `before` with a history of another length
 // and with a number above 63, which is no person's.
 #[unsafe(no_mangle)]
@@ -22,7 +25,7 @@ pub extern "C" fn timed_level_by_reads(
     if history.len() != history::BYTES {
         return before;
     }
-    if person >= 64 {
+    if person >= PERSONS {
         return before;
     }
     let level = recorded::levels::level_by_reads(tables, history, person, Level(before));

@@ -2,20 +2,18 @@
 use native.Mathlib.Omega.{arith}
 use borrow.Author.Tests.{eq-eqb, ne_eqb, lt-ltb, le-ltb}
 use Rattle.timed.specs.Timed.{level_by_reads}
-use Rattle.timed.proofs.timed_level_by_reads.Lts as lts
-use borrow.Author.Rules.{rules}
 use Rattle.timed.proofs.timed_level_by_reads.Goals as goal
 
 pub returns-then-history-ne-BYTES : goal.returns-then-history-ne-BYTES
 unfolding level_by_reads
 returns-then-history-ne-BYTES c = rw (ne_eqb _ _ c.if-history-ne-BYTES.true)
 
-pub returns-then-person-ge64 : goal.returns-then-person-ge64
+pub returns-then-person-ge-PERSONS : goal.returns-then-person-ge-PERSONS
 unfolding level_by_reads
-returns-then-person-ge64 c =
+returns-then-person-ge-PERSONS c =
     let person = c.args.person in
     rw (eq-eqb _ _ c.if-history-ne-BYTES.false, le-ltb person 64 (omega arith))
 
 pub returns : goal.returns
 unfolding level_by_reads
-returns c = rw (eq-eqb _ _ c.if-history-ne-BYTES.false, lt-ltb _ _ c.if-person-ge64.false) c.level_by_reads-level.ensures
+returns c = rw (eq-eqb _ _ c.if-history-ne-BYTES.false, lt-ltb _ _ c.if-person-ge-PERSONS.false) c.level_by_reads-level.ensures
