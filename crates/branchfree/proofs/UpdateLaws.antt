@@ -1,6 +1,6 @@
 -- Updates that are made or not: a number masked by all bits is itself, and one masked by none is 0, so a set narrowed by all is its part in
 -- the other, and one narrowed by none is the set; and a bit that is not shifted in leaves the number.
-use Prim.Native.Nat.{ℕ, ◌+◌, ◌*◌, ◌-◌, ◌/◌, ◌%◌, ◌^◌, ◌<◌}
+use Prim.Native.Nat.{ℕ, ◌*◌, ◌-◌, ◌/◌, ◌%◌, ◌^◌, ◌<◌}
 use native.Mathlib.Nat.{mod-eq_of_lt}
 use native.Mathlib.Omega.{arith}
 use mathlib.Core.Path.{◌≡◌, refl, ap, ap₂, ◌∙◌}
@@ -10,7 +10,6 @@ use mathlib.Core.List.{List}
 use lib.Bits.{bit_and, bit_or, and_mask, and_comm, and_zero_l, or_zero_r, or_add_and}
 use lib.ListN.{get_or, set}
 use lib.Seq.{set-get_or}
-use Rattle.bits.specs.Bits.{bit}
 use Rattle.bits.proofs.BitLaws.{with_masked_bit_if}
 use Rattle.policy.specs.History.{with_bit_at}
 

@@ -1,5 +1,6 @@
 // A history's bits (document 01, "History"): one bit for each possible request; and 64 of them at once.
 #![tactic(auto)]
+
 ghost use Rattle.std.specs.Prelude.{◌≡◌, ◌+◌, ◌*◌, ◌^◌, ◌≤◌, ◌<◌, length};
 ghost use Rattle.policy.specs.History.{bit_at, with_bit_at, zeros};
 ghost use Rattle.history.specs.Words.{bytes_at, word_at};

@@ -1,7 +1,7 @@
 -- The first check that fails, by what is kept, has the number that the definitions give: what is kept says of each rule in force what its
 -- definition says, the marks say whether the parties are declared, and the ladder's number is that of the first test that fails, which is
 -- seen of every combination of tests.
-use Prim.Native.Nat.{ℕ, ◌+◌, ◌-◌, ◌%◌, ◌<◌}
+use Prim.Native.Nat.{ℕ, ◌-◌, ◌%◌}
 use mathlib.Core.Path.{◌≡◌, refl, ap, ◌∙◌}
 use mathlib.Core.Logic.{⊎_elim}
 use mathlib.Core.Bool.{Bool, true, false, cond, not, ◌&&◌, ◌||◌}
@@ -16,7 +16,6 @@ use Rattle.bits.proofs.Booleans.{decide}
 use Rattle.level.specs.declared.Comparison.{Comparison}
 use Rattle.level.specs.declared.Comparison.TheVariants.{AtMost, RankTooLow, CompartmentMissing}
 use Rattle.level.specs.Levels.{is_at_most}
-use Rattle.level.proofs.SetLaws.{outcome}
 use Rattle.policy.specs.declared.Tables.{Tables}
 use Rattle.policy.specs.Checks.{ladder}
 use Rattle.policy.specs.Tables.{in_force, wall_rule, low_water_rule, roles_rule, pipeline_rule}

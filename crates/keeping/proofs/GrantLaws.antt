@@ -1,7 +1,7 @@
 -- A granted request of any kind changes what is kept as it changes what the set gives: the firm of an access to a folder that is not
 -- public, the right, and a step with those that may be next after it; and a read or a step lowers its person's level. A refused one
 -- changes nothing.
-use Prim.Native.Nat.{ℕ, zero, suc, ◌+◌, ◌%◌, ◌<◌}
+use Prim.Native.Nat.{ℕ, zero, suc, ◌%◌, ◌<◌}
 use native.Mathlib.Nat.{mod-eq_of_lt}
 use native.Mathlib.Omega.{arith}
 use mathlib.Core.Path.{◌≡◌, refl, sym, ap, ◌∙◌, fun_ext}
@@ -17,7 +17,7 @@ use Rattle.policy.specs.declared.Tables.{Tables}
 use Rattle.policy.specs.Tables.{folder_at, enables, person_declared, folder_declared, is_public, in_force, wall_rule, pipeline_rule}
 use Rattle.policy.specs.Rulebook.{given}
 use Rattle.policy.specs.Request.{Request, read, write, start, step, subject}
-use Rattle.policy.specs.Rules.{declared, right, counted, done, leads_to, pipeline_step}
+use Rattle.policy.specs.Rules.{declared, counted, done, leads_to, pipeline_step}
 use Rattle.policy.specs.OneMore.{with_request, access_of, folder_of, step_on, step_of}
 use Rattle.policy.proofs.OneMore.{one_more}
 use Rattle.pipeline.specs.Steps.{pipeline_in}

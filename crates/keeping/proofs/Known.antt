@@ -15,7 +15,6 @@ use borrow.Author.Tests.{le-ltb, ltb-true, ltb-false, le-leb}
 use Rattle.bits.specs.Bits.{bit, mask_below}
 use Rattle.bits.proofs.Booleans.{decide, and_left, and_right, false_intro, false_elim}
 use Rattle.bits.proofs.Masks.{bit_mask_below}
-use Rattle.level.specs.declared.Comparison.{Comparison}
 use Rattle.level.specs.declared.Comparison.TheVariants.{AtMost, RankTooLow, CompartmentMissing}
 use Rattle.level.specs.Levels.{compare_of}
 use Rattle.level.specs.Sets.{level_set}

@@ -1,7 +1,6 @@
 -- A rule that is asked where three tests hold: of a pair that it is not asked about it is true, and of any other what it says.
 use mathlib.Core.Path.{◌≡◌, refl, sym, ap, ◌∙◌}
-use mathlib.Core.Bool.{Bool, true, false, not, ◌&&◌, ◌||◌, false≢true}
-use borrow.Author.Tests.{not-true, not-false}
+use mathlib.Core.Bool.{Bool, true, false, ◌&&◌, ◌||◌, false≢true}
 use Rattle.bits.specs.Bounded.{◌implies◌}
 use Rattle.listed.specs.declared.pairs.Side.{Side}
 use Rattle.listed.specs.Pairs.{levels_pass, steps_pass, precedes}

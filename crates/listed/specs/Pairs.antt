@@ -1,4 +1,4 @@
--- The rules on pairs of jobs, over what is looked up about each job once. Law `pair_same` of `planning` says that this is `mayPrecede`.
+-- The rules on pairs of jobs, over what is looked up about each job once. Law `pair_same` of `planning` says that this is `may_precede`.
 use Rattle.std.specs.Prelude.{ℕ, ◌%◌, ◌<◌, ◌≡◌, Bool, false, not, ◌&&◌, List, eqb, length, get_or}
 use Rattle.bits.specs.Bits.{bit, mask_below}
 use Rattle.bits.specs.Bounded.{◌implies◌}

@@ -1,5 +1,5 @@
 -- Sorting by the rows of the rules on pairs orders the jobs: a row says which jobs one may not come before, since what was looked up about
--- jobs that can be planned says what `mayPrecede` says.
+-- jobs that can be planned says what `may_precede` says.
 use Prim.Native.Nat.{ℕ, ◌%◌, ◌<◌}
 use native.Mathlib.Nat.{mod-eq_of_lt}
 use mathlib.Core.Path.{◌≡◌, refl, sym, ap, ap₂, ◌∙◌}

@@ -75,7 +75,7 @@ last_row {check} {cause} {checks} same f h =
       );
     }
 
--- as `one-row`, where what follows may take for granted that the check permits
+-- as `one_row`, where what follows may take for granted that the check permits
 pub then_row : {check : Check} {cause : Cause} {checks : List Check} {causes : List Cause} → check.number ≡ cause.number
     → Refuses check.permits cause.holds → (check.permits ≡ true → Numbered checks causes)
     → Numbered (check ∷ checks) (cause ∷ causes)

@@ -1,4 +1,4 @@
--- `hasCircle` is true exactly where the pairs form a circle. It holds because `reaches t k` knows the ways all of whose inner steps are
+-- `has_circle` is true exactly where the pairs form a circle. It holds because `reaches t k` knows the ways all of whose inner steps are
 -- below k, by induction on k, and every step that a pair names is below 16.
 use Prim.Native.Nat.{ℕ, zero, suc, ◌^◌, ◌≤◌, ◌<◌}
 use native.Mathlib.Nat.{eq-or-lt_of_le, le_of_suc-le-suc, not-suc-le-zero}

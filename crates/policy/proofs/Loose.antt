@@ -1,4 +1,4 @@
--- `hasLoose` is true exactly where a step other than 0 enables some step and no step enables it. It holds because every step that a pair
+-- `has_loose` is true exactly where a step other than 0 enables some step and no step enables it. It holds because every step that a pair
 -- names is below 16, so that the searches below 16 find each of them.
 use Prim.Native.Nat.{ℕ, ◌^◌, ◌<◌}
 use mathlib.Core.Path.{◌≡◌, sym, ap, ◌∙◌}

@@ -39,7 +39,7 @@ blank_number t a = ladder (call_checks t a)
 unfoldable pub blank_state : Tables → State → State
 blank_state t a = cond (eqb (blank_number t a) 0) (state (zeros history_bytes) (first_levels t a.levels)) a
 
--- load is `loadBook`; beside it, rest: the bytes after the end record, none for a refused book
+-- load is `load_book`; beside it, rest: the bytes after the end record, none for a refused book
 unfoldable pub rest_of : List ℕ → List ℕ
 rest_of book = cond (eqb (load_book book).number 0) (drop ((load_book book).offset + 1) book) []
 

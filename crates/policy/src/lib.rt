@@ -1,5 +1,6 @@
 // The declared types of the monitor: the tables of a rulebook and what the calls return.
 #![tactic(auto)]
+
 use level::Level;
 
 pub mod numbers;

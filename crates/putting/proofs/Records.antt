@@ -1,5 +1,5 @@
 -- The records of a run, one after another: the calls of some bytes are the bytes themselves and the calls after their first record. The
--- number of turns that `callsFrom` may take does not matter, as long as there is one for each byte.
+-- number of turns that `calls_from` may take does not matter, as long as there is one for each byte.
 use Prim.Native.Nat.{ℕ, zero, suc, ◌+◌, ◌≤◌, ◌<◌}
 use native.Mathlib.Nat.{not-suc-le-zero}
 use native.Mathlib.Omega.{arith}

@@ -1,8 +1,8 @@
 -- The record of each kind: what the definitions look up for a kind that is known, and that a kind which is none of 0 to 7 is past the end
 -- of what they look it up in.
-use Prim.Native.Nat.{ℕ, ◌≤◌, ◌<◌}
+use Prim.Native.Nat.{ℕ, suc, ◌≤◌, ◌<◌, zero-le}
 use native.Mathlib.Omega.{arith}
-use mathlib.Core.List.{List, [], ◌∷◌}
+use mathlib.Core.List.{List, ◌∷◌}
 use mathlib.Core.Path.{◌≡◌}
 use lib.ListN.{get_or, take, drop, get_or-eq_default}
 use Rattle.policy.specs.Rulebook.{end, rules, firm, person, folder, role, pair, public, last_kind, body_length, little_endian, record_of}
@@ -10,6 +10,24 @@ use Rattle.rulebook.specs.declared.records.Reading.{Reading}
 use Rattle.rulebook.specs.Readings.{record_read}
 
 -- ---- kinds above the last
+
+above : (k b : ℕ) → b ≤ k → (k ≡ b → ⊥) → suc b ≤ k
+above k b l n = omega arith
+
+module _
+    (k : ℕ)
+    (n0 : k ≡ 0 → ⊥)
+    (n1 : k ≡ 1 → ⊥)
+    (n2 : k ≡ 2 → ⊥)
+    (n3 : k ≡ 3 → ⊥)
+    (n4 : k ≡ 4 → ⊥)
+    (n5 : k ≡ 5 → ⊥)
+    (n6 : k ≡ 6 → ⊥)
+    (n7 : k ≡ 7 → ⊥)
+  where
+    pub past_last : last_kind < k
+    past_last =
+        above k 7 (above k 6 (above k 5 (above k 4 (above k 3 (above k 2 (above k 1 (above k 0 zero-le n0) n1) n2) n3) n4) n5) n6) n7
 
 -- no known kind is above the last
 pub too_high : {k n : ℕ} → n ≤ last_kind → k ≡ n → last_kind < k → ⊥

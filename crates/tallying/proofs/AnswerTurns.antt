@@ -1,16 +1,15 @@
 -- Requests counted by answers that are written already, turn by turn: the first request of the rest has the first answer of the rest.
 use Prim.Native.Nat.{ℕ, suc, ◌+◌, ◌≤◌, ◌<◌}
 use native.Mathlib.Omega.{arith}
-use mathlib.Core.Path.{◌≡◌, refl, sym, ap, ◌∙◌}
-use mathlib.Core.List.{List, [], ◌∷◌}
+use mathlib.Core.Path.{◌≡◌, refl, sym, ◌∙◌}
+use mathlib.Core.List.{List}
 use lib.ListN.{length, get_or, drop, drop_of_length-le}
 use lib.Seq.{drop-cons}
 use Rattle.policy.specs.declared.Tables.{Tables}
-use Rattle.policy.specs.Request.{request_of}
 use Rattle.policy.specs.Calls.{calls_of}
 use Rattle.policy.specs.Tallies.{counted_under}
 use Rattle.request.specs.declared.Parsed.{Parsed}
-use Rattle.request.specs.Parsed.{as_request, ParsedFrom, next_record}
+use Rattle.request.specs.Parsed.{as_request, ParsedFrom}
 use Rattle.putting.proofs.Records.{calls_at, none_left, next_at_within, next_at_further}
 use Rattle.counts.specs.Counting.{with_one, with_requests}
 

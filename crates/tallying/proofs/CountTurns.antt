@@ -11,7 +11,7 @@ use Rattle.policy.specs.declared.Tables.{Tables}
 use Rattle.policy.specs.History.{zeros}
 use Rattle.policy.specs.Rulebook.{given}
 use Rattle.policy.specs.Request.{set_of, request_of}
-use Rattle.policy.specs.Calls.{State, state, put_numbers, put_states, calls_of, answers_due, granted_in, refused_in}
+use Rattle.policy.specs.Calls.{State, state, put_numbers, calls_of, answers_due, granted_in}
 use Rattle.policy.specs.Tallies.{counted_under}
 use Rattle.policy.proofs.Runs.{numbers_length, counted_once}
 use Rattle.policy.proofs.CountedUnder.{row_within}
@@ -21,9 +21,9 @@ use Rattle.request.specs.Parsed.{as_request, ParsedFrom}
 use Rattle.questions.specs.Judging.{Ready}
 use Rattle.branchfree.specs.Kinds.{asked_by}
 use Rattle.keeping.specs.Keeping.{Keeps, PutKept, Kept as Keeping}
-use Rattle.putting.specs.Running.{run_numbers, Turned, Finished, Begun}
+use Rattle.putting.specs.Running.{run_numbers, Turned, Finished}
 use Rattle.putting.proofs.Records.{calls_at}
-use Rattle.putting.proofs.Turns.{done_none, done_granted, done_due}
+use Rattle.putting.proofs.Turns.{done_none, done_granted}
 use Rattle.running.proofs.KeptTurns.{kept_none, kept_turned, kept_more, kept_stored}
 use Rattle.counts.specs.Counting.{raised_at, with_one, with_requests}
 use Rattle.counts.proofs.CountLaws.{one_raised, raised_length, counted_those}

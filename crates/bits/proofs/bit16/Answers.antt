@@ -3,7 +3,6 @@
 use native.Mathlib.Omega.{arith}
 use lib.Bits.{mask_lt}
 use Rattle.bits.proofs.BitLaws.{masked_bit}
-use borrow.Author.Rules.{rules}
 use Rattle.bits.proofs.bit16.Goals as goal
 
 pub overflow_cast-result : goal.overflow_cast-result

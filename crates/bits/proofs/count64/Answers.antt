@@ -1,6 +1,5 @@
 -- `bits::count64` counts the set bits of its number: `u64::count_ones` gives the sum of the binary digits, of which a u64 has 64.
 use Rattle.bits.proofs.BitLaws.{ones_count}
-use borrow.Author.Rules.{rules}
 use Rattle.bits.proofs.count64.Goals as goal
 
 pub returns : goal.returns

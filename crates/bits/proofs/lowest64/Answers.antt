@@ -3,7 +3,6 @@ use native.Mathlib.Nat.{lt_of_le_of_lt}
 use native.Mathlib.Omega.{arith}
 use lib.Count.{trailing_le}
 use Rattle.bits.proofs.LowestBit.{trailing_lowest}
-use borrow.Author.Rules.{rules}
 use Rattle.bits.proofs.lowest64.Goals as goal
 
 pub overflow_cast-result : goal.overflow_cast-result

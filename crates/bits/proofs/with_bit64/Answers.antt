@@ -3,7 +3,6 @@
 use native.Mathlib.Omega.{arith}
 use lib.Bits.{mask_lt}
 use Rattle.bits.proofs.BitLaws.{with_masked_bit}
-use borrow.Author.Rules.{rules}
 use Rattle.bits.proofs.with_bit64.Goals as goal
 
 pub overflow_shl-result : goal.overflow_shl-result

@@ -7,7 +7,6 @@ use lib.Bits.{mask_lt}
 use Rattle.bits.specs.Bits.{bit, without_bit}
 use Rattle.bits.proofs.BitLaws.{masked_pow}
 use Rattle.bits.proofs.LowestBit.{set_le}
-use borrow.Author.Rules.{rules}
 use Rattle.bits.proofs.without_bit64.Goals as goal
 
 pub overflow_shl-result : goal.overflow_shl-result

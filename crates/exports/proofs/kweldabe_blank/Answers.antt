@@ -1,8 +1,6 @@
--- `kweldabe_blank` is `blankBy` and leaves `blankedBy` of what loading returned: nothing changes for a refused book, and otherwise
+-- `kweldabe_blank` is `blank_by` and leaves `blanked_by` of what loading returned: nothing changes for a refused book, and otherwise
 -- `loaded::blank` says both.
 use Rattle.exports.proofs.Books.{loaded_tables, blank_refused, blank_loaded}
-use Rattle.exports.proofs.kweldabe_blank.Lts as lts
-use borrow.Author.Rules.{rules}
 use Rattle.exports.proofs.kweldabe_blank.Goals as goal
 
 pub returns-then-given-ne-GRANTED : goal.returns-then-given-ne-GRANTED

@@ -1,8 +1,6 @@
--- `kweldabe_judge` is `judgeBy` of what loading returned: a refused book's number, or what `loaded::judge` says by the loaded tables.
+-- `kweldabe_judge` is `judge_by` of what loading returned: a refused book's number, or what `loaded::judge` says by the loaded tables.
 use mathlib.Core.Path.{◌∙◌}
 use Rattle.exports.proofs.Books.{loaded_tables, judge_refused, judge_loaded}
-use Rattle.exports.proofs.kweldabe_judge.Lts as lts
-use borrow.Author.Rules.{rules}
 use Rattle.exports.proofs.kweldabe_judge.Goals as goal
 
 pub returns-then-given-ne-GRANTED : goal.returns-then-given-ne-GRANTED

@@ -1,8 +1,6 @@
--- `kweldabe_load` packs what `monitor::load` returns, which is `loadBook`.
+-- `kweldabe_load` packs what `monitor::load` returns, which is `load_book`.
 use mathlib.Core.Path.{◌∙◌}
 use Rattle.exports.proofs.Books.{load_packed_lem}
-use Rattle.exports.proofs.kweldabe_load.Lts as lts
-use borrow.Author.Rules.{rules}
 use Rattle.exports.proofs.kweldabe_load.Goals as goal
 
 pub returns : goal.returns

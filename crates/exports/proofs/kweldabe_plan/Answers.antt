@@ -3,8 +3,6 @@
 use mathlib.Core.Path.{sym, ◌∙◌}
 use Rattle.exports.proofs.Books.{loaded_tables}
 use Rattle.exports.proofs.Positions.{book_refused_lem, lengths_refused, few_positions, plan_refused, plan_found}
-use Rattle.exports.proofs.kweldabe_plan.Lts as lts
-use borrow.Author.Rules.{rules}
 use Rattle.exports.proofs.kweldabe_plan.Goals as goal
 
 pub returns-then-given-ne-GRANTED : goal.returns-then-given-ne-GRANTED

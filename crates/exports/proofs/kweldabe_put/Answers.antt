@@ -1,9 +1,7 @@
--- `kweldabe_put` is `judgeBy` and leaves `putBy` of what loading returned: nothing changes for a refused book, and otherwise
+-- `kweldabe_put` is `judge_by` and leaves `put_by` of what loading returned: nothing changes for a refused book, and otherwise
 -- `loaded::put` says both.
 use mathlib.Core.Path.{◌∙◌}
 use Rattle.exports.proofs.Books.{loaded_tables, judge_refused, judge_loaded, put_refused, put_loaded}
-use Rattle.exports.proofs.kweldabe_put.Lts as lts
-use borrow.Author.Rules.{rules}
 use Rattle.exports.proofs.kweldabe_put.Goals as goal
 
 pub returns-then-given-ne-GRANTED : goal.returns-then-given-ne-GRANTED

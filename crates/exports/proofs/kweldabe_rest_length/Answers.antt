@@ -1,8 +1,6 @@
 -- `kweldabe_rest_length` is the length of what `monitor::rest` returns, which is `rest_of`.
 use mathlib.Core.Path.{ap}
 use lib.ListN.{length}
-use Rattle.exports.proofs.kweldabe_rest_length.Lts as lts
-use borrow.Author.Rules.{rules}
 use Rattle.exports.proofs.kweldabe_rest_length.Goals as goal
 
 pub returns : goal.returns

@@ -1,8 +1,6 @@
 -- `kweldabe_run` meets `RunBy` of what loading returned: nothing changes for a refused book, and otherwise `loaded::run` says all
 -- three.
 use Rattle.exports.proofs.Books.{loaded_tables, run_refused, run_loaded}
-use Rattle.exports.proofs.kweldabe_run.Lts as lts
-use borrow.Author.Rules.{rules}
 use Rattle.exports.proofs.kweldabe_run.Goals as goal
 
 pub returns-then-given-ne-GRANTED : goal.returns-then-given-ne-GRANTED

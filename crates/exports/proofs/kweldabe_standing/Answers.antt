@@ -1,9 +1,7 @@
--- `kweldabe_standing` packs `standingBy` of what loading returned: zeros for a refused book, and otherwise what `loaded::standing`
+-- `kweldabe_standing` packs `standing_by` of what loading returned: zeros for a refused book, and otherwise what `loaded::standing`
 -- says.
 use mathlib.Core.Path.{◌∙◌}
 use Rattle.exports.proofs.Books.{loaded_tables, standing_refused, standing_loaded}
-use Rattle.exports.proofs.kweldabe_standing.Lts as lts
-use borrow.Author.Rules.{rules}
 use Rattle.exports.proofs.kweldabe_standing.Goals as goal
 
 pub returns-then-given-ne-GRANTED : goal.returns-then-given-ne-GRANTED

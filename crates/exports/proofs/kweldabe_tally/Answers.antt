@@ -1,8 +1,6 @@
 -- `kweldabe_tally` meets `TallyBy` of what loading returned: nothing changes for a refused book, and otherwise `tallying::tally` says all
 -- three.
 use Rattle.exports.proofs.Books.{loaded_tables, tally_refused, tally_loaded}
-use Rattle.exports.proofs.kweldabe_tally.Lts as lts
-use borrow.Author.Rules.{rules}
 use Rattle.exports.proofs.kweldabe_tally.Goals as goal
 
 pub returns-then-given-ne-GRANTED : goal.returns-then-given-ne-GRANTED

@@ -1,6 +1,5 @@
--- `pack_load` is `packedLoad`, and no sum passes 64 bits: a number is below 2^8, and an offset is taken modulo 2^56.
+-- `pack_load` is `packed_load`, and no sum passes 64 bits: a number is below 2^8, and an offset is taken modulo 2^56.
 use Rattle.exports.specs.Packed.{packed_load}
-use Rattle.exports.proofs.pack_load.Lts as lts
 use borrow.Author.Rules.{rules}
 use Rattle.exports.proofs.pack_load.Goals as goal
 

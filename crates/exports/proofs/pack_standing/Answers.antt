@@ -1,6 +1,5 @@
--- `pack_standing` is `packedStanding`, and no sum passes 64 bits: each part is below the place of the next.
+-- `pack_standing` is `packed_standing`, and no sum passes 64 bits: each part is below the place of the next.
 use Rattle.exports.specs.Packed.{packed_standing}
-use Rattle.exports.proofs.pack_standing.Lts as lts
 use borrow.Author.Rules.{rules}
 use Rattle.exports.proofs.pack_standing.Goals as goal
 

@@ -1,11 +1,8 @@
 -- `put_positions` stores one position after another: before turn k the first k bytes are the plan's.
 use Prim.Native.Nat.{◌-◌, ◌≤◌}
-use native.Mathlib.Omega.{arith}
-use mathlib.Core.Path.{◌≡◌, refl, ◌∙◌}
+use mathlib.Core.Path.{◌≡◌}
 use mathlib.Core.List.{◌++◌}
 use lib.ListN.{take, drop}
-use Rattle.exports.proofs.Positions.{pasted_more, pasted_all, pasted_length}
-use Rattle.exports.proofs.put_positions.Lts as lts
 use Rattle.exports.proofs.put_positions.Given as goal
 
 abbrev pub invariant-loop-k : goal.invariant-loop-k

@@ -1,9 +1,7 @@
 -- `done` answers the steps done by declared persons, if the pipeline is in force.
 use mathlib.Core.Path.{refl, sym, ◌∙◌}
-use borrow.Author.Tests.{not-true}
 use Rattle.policy.specs.Tables.{in_force}
 use Rattle.gathering.proofs.GatheredLaws.{unasked, has_done}
-use borrow.Author.Rules.{rules}
 use Rattle.gathering.proofs.done.Goals as goal
 
 pub returns-then-not-bit8 : goal.returns-then-not-bit8

@@ -1,11 +1,8 @@
 -- `done_by` stores the sets one after another: before turn o those of the folders below o.
-use Prim.Native.Nat.{◌-◌, ◌≤◌}
+use Prim.Native.Nat.{◌-◌}
 use native.Mathlib.Omega.{arith}
 use mathlib.Core.Path.{◌≡◌, refl}
-use Rattle.recorded.specs.Gathering.{FirstAre}
 use Rattle.recorded.proofs.GatheringLaws.{stored_none, stored_more}
-use Rattle.bits.specs.Bits.{mask_below}
-use Rattle.pipeline.specs.Steps.{done_by}
 use borrow.Author.Rules.{rules}
 use Rattle.gathering.proofs.done_by.Goals as goal
 

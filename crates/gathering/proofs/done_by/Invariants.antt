@@ -1,9 +1,6 @@
 -- `done_by` stores the sets one after another: before turn o those of the folders below o.
 use Prim.Native.Nat.{◌-◌, ◌≤◌}
-use native.Mathlib.Omega.{arith}
-use mathlib.Core.Path.{◌≡◌, refl}
 use Rattle.recorded.specs.Gathering.{FirstAre}
-use Rattle.recorded.proofs.GatheringLaws.{stored_none, stored_more}
 use Rattle.bits.specs.Bits.{mask_below}
 use Rattle.pipeline.specs.Steps.{done_by}
 use Rattle.gathering.proofs.done_by.Given as goal

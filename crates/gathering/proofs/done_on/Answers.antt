@@ -1,7 +1,6 @@
 -- `done_on` answers the steps done: none where nobody of the persons stepped on the folder.
 use mathlib.Core.Path.{◌∙◌}
 use Rattle.gathering.proofs.GatheredLaws.{none_done}
-use borrow.Author.Rules.{rules}
 use Rattle.gathering.proofs.done_on.Goals as goal
 
 pub returns-then-steppers-persons-eq0 : goal.returns-then-steppers-persons-eq0

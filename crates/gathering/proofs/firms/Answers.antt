@@ -1,9 +1,7 @@
 -- `firms` turns the openers of the firms round, if the wall is in force.
 use mathlib.Core.Path.{refl, sym, ◌∙◌}
-use borrow.Author.Tests.{not-true}
 use Rattle.policy.specs.Tables.{in_force}
 use Rattle.gathering.proofs.GatheredLaws.{unasked, has_firms}
-use borrow.Author.Rules.{rules}
 use Rattle.gathering.proofs.firms.Goals as goal
 
 pub returns-then-not-bit8 : goal.returns-then-not-bit8

@@ -1,9 +1,7 @@
 -- `holders` turns the rights of the roles round, if roles are in force.
 use mathlib.Core.Path.{refl, sym, ◌∙◌}
-use borrow.Author.Tests.{not-true}
 use Rattle.policy.specs.Tables.{in_force}
 use Rattle.gathering.proofs.GatheredLaws.{unasked, has_holders}
-use borrow.Author.Rules.{rules}
 use Rattle.gathering.proofs.holders.Goals as goal
 
 pub returns-then-not-bit8 : goal.returns-then-not-bit8

@@ -1,9 +1,7 @@
 -- `holding` turns the rows of the roles' holders round, if roles are in force.
 use mathlib.Core.Path.{refl, sym, ◌∙◌}
-use borrow.Author.Tests.{not-true}
 use Rattle.policy.specs.Tables.{in_force}
 use Rattle.gathering.proofs.GatheredLaws.{unasked, has_holding}
-use borrow.Author.Rules.{rules}
 use Rattle.gathering.proofs.holding.Goals as goal
 
 pub returns-then-not-bit8 : goal.returns-then-not-bit8

@@ -1,9 +1,7 @@
 -- `next` answers the steps that may be next, if the pipeline is in force.
 use mathlib.Core.Path.{refl, sym, ◌∙◌}
-use borrow.Author.Tests.{not-true}
 use Rattle.policy.specs.Tables.{in_force}
 use Rattle.gathering.proofs.GatheredLaws.{unasked, has_next}
-use borrow.Author.Rules.{rules}
 use Rattle.gathering.proofs.next.Goals as goal
 
 pub returns-then-not-bit8 : goal.returns-then-not-bit8

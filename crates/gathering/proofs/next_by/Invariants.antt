@@ -1,9 +1,6 @@
 -- `next_by` stores the sets one after another: before turn o those of the folders below o.
 use Prim.Native.Nat.{◌-◌, ◌%◌, ◌≤◌}
-use native.Mathlib.Omega.{arith}
-use mathlib.Core.Path.{◌≡◌, refl}
 use Rattle.recorded.specs.Gathering.{FirstAre}
-use Rattle.recorded.proofs.GatheringLaws.{stored_none, stored_more}
 use lib.ListN.{get_or}
 use Rattle.bits.specs.Bits.{mask_below}
 use Rattle.pipeline.specs.Steps.{pipeline_in}

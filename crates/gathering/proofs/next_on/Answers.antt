@@ -1,6 +1,5 @@
 -- `next_on` answers "create" alone where no step is done, as `next_steps` does.
 use Rattle.pipeline.proofs.NextLaws.{next_none}
-use borrow.Author.Rules.{rules}
 use Rattle.gathering.proofs.next_on.Goals as goal
 
 pub returns-then-own-eq0 : goal.returns-then-own-eq0

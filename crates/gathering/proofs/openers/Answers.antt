@@ -1,7 +1,6 @@
 -- `openers` joins the words of the low half of the folders to empty sets, and then those of the high half.
 use Rattle.grouping.proofs.FolderWords.{touched_in_lem}
 use Rattle.gathering.proofs.UserLaws.{sets_are}
-use borrow.Author.Rules.{rules}
 use Rattle.gathering.proofs.openers.Goals as goal
 
 pub returns : goal.returns

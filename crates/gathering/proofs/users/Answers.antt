@@ -1,7 +1,6 @@
 -- `users` adds the reads, the writes, the steps and the starts to empty sets.
 use mathlib.Core.Path.{refl}
 use Rattle.gathering.proofs.UserLaws.{users_are}
-use borrow.Author.Rules.{rules}
 use Rattle.gathering.proofs.users.Goals as goal
 
 pub returns : goal.returns

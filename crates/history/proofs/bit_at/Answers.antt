@@ -2,7 +2,6 @@
 use mathlib.Core.Path.{sym}
 use Rattle.policy.specs.History.{bit_at}
 use Rattle.history.proofs.HistoryLaws.{bit_past}
-use borrow.Author.Rules.{rules}
 use Rattle.history.proofs.bit_at.Goals as goal
 
 pub returns-then-at-h : goal.returns-then-at-h

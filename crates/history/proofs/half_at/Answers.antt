@@ -1,7 +1,6 @@
 -- `history::half_at` is the number of four bytes, the first two below the others.
 use native.Mathlib.Omega.{arith}
 use Rattle.history.proofs.WordLaws.{bytes_joined}
-use borrow.Author.Rules.{rules}
 use Rattle.history.proofs.half_at.Goals as goal
 
 pub returns : goal.returns

@@ -1,7 +1,6 @@
 -- `history::join` puts one number above the bits of another: shifted up, it loses no bit and has none in common with the other, so that
 -- "or" is the sum.
 use Rattle.bits.proofs.BitLaws.{or_above}
-use borrow.Author.Rules.{rules}
 use Rattle.history.proofs.join.Goals as goal
 
 pub returns : goal.returns

@@ -2,7 +2,6 @@
 use native.Mathlib.Omega.{arith}
 use Rattle.history.specs.Words.{bytes_at}
 use Rattle.history.proofs.WordLaws.{bytes_joined}
-use borrow.Author.Rules.{rules}
 use Rattle.history.proofs.pair_at.Goals as goal
 
 pub returns : goal.returns

@@ -2,7 +2,6 @@
 use mathlib.Core.Path.{sym}
 use Rattle.policy.specs.History.{with_bit_at}
 use Rattle.history.proofs.HistoryLaws.{with_past}
-use borrow.Author.Rules.{rules}
 use Rattle.history.proofs.set_bit.Goals as goal
 
 pub returns-then-at-h : goal.returns-then-at-h

@@ -1,7 +1,6 @@
 -- `history::word_at` is the number of eight bytes, the first four below the others.
 use Rattle.history.specs.Words.{word_at}
 use Rattle.history.proofs.WordLaws.{bytes_joined}
-use borrow.Author.Rules.{rules}
 use Rattle.history.proofs.word_at.Goals as goal
 
 pub returns : goal.returns

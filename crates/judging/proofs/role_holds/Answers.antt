@@ -1,6 +1,5 @@
 -- `role_holds` asks for a role that holds the rights used and the new one.
 use mathlib.Core.Path.{◌∙◌}
-use borrow.Author.Rules.{rules}
 use Rattle.judging.proofs.role_holds.Goals as goal
 
 pub returns : goal.returns

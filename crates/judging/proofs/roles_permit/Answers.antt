@@ -1,10 +1,8 @@
 -- `roles_permit` asks for a role without steps, then for one with all steps, and then with the steps that the person applied. Where the
 -- first test passes, the rights found are those of all reads and writes.
 use mathlib.Core.Path.{refl, sym, ◌∙◌}
-use borrow.Author.Tests.{not-true, not-false}
 use Rattle.policy.proofs.Requests.{person_below_lem}
 use Rattle.judging.proofs.RoleRights.{least_refused, most_held, applied_decide}
-use borrow.Author.Rules.{rules}
 use Rattle.judging.proofs.roles_permit.Goals as goal
 
 pub has_started_declared-starts-requires : goal.has_started_declared-starts-requires

@@ -5,8 +5,6 @@ use mathlib.Core.Bool.{◌&&◌}
 use lib.ListN.{set}
 use Rattle.branchfree.specs.Kinds.{lowers, is_step}
 use Rattle.branchfree.proofs.UpdateLaws.{masked_one, masked_all}
-use Rattle.keeping.proofs.change.Lts as lts
-use borrow.Author.Rules.{rules}
 use Rattle.keeping.proofs.change.Goals as goal
 
 pub returns : goal.returns

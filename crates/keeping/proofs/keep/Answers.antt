@@ -1,6 +1,4 @@
 -- `keep` makes each change by the function of its own.
-use Rattle.keeping.proofs.keep.Lts as lts
-use borrow.Author.Rules.{rules}
 use Rattle.keeping.proofs.keep.Goals as goal
 
 pub returns : goal.returns

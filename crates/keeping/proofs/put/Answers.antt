@@ -1,6 +1,4 @@
 -- `put` is what the function for the rules in force gives.
-use Rattle.keeping.proofs.put.Lts as lts
-use borrow.Author.Rules.{rules}
 use Rattle.keeping.proofs.put.Goals as goal
 
 pub returns-then-mask-eq0 : goal.returns-then-mask-eq0

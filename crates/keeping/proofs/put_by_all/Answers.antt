@@ -1,14 +1,10 @@
 -- `put_by_all` judges the request by what is kept and changes what is kept by what was found, as the definitions do (Puts).
-use Prim.Native.Nat.{◌<◌}
 use native.Mathlib.Omega.{arith}
-use mathlib.Core.Path.{◌≡◌, refl, ◌∙◌}
-use mathlib.Core.Bool.{◌&&◌}
+use mathlib.Core.Path.{refl, ◌∙◌}
 use Rattle.branchfree.specs.Kinds.{asked_by, is_access}
 use Rattle.keeping.specs.Keeping.{kept}
 use Rattle.branchfree.proofs.KindLaws.{row_of_lem}
 use Rattle.keeping.proofs.Puts.{placed_at, found_at, right_in}
-use Rattle.keeping.proofs.put_by_all.Lts as lts
-use borrow.Author.Rules.{rules}
 use Rattle.keeping.proofs.put_by_all.Goals as goal
 
 pub right-requires : goal.right-requires

@@ -1,7 +1,5 @@
 -- `levels::entry` is the person's two bytes as one number, the low one first.
 use Rattle.policy.specs.Levels.{level_at}
-use Rattle.levels.proofs.entry.Lts as lts
-use borrow.Author.Rules.{rules}
 use Rattle.levels.proofs.entry.Goals as goal
 
 pub returns : goal.returns

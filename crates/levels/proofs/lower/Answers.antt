@@ -1,7 +1,5 @@
 -- `levels::lower` stores the meet of the stored level and the other one.
 use mathlib.Core.Path.{◌∙◌}
-use Rattle.levels.proofs.lower.Lts as lts
-use borrow.Author.Rules.{rules}
 use Rattle.levels.proofs.lower.Goals as goal
 
 pub returns : goal.returns

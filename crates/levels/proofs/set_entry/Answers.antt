@@ -3,7 +3,6 @@ use native.Mathlib.Omega.{arith}
 use mathlib.Core.Path.{refl}
 use lib.ListN.{length-set}
 use Rattle.policy.specs.Levels.{with_level_at}
-use borrow.Author.Rules.{rules}
 use Rattle.levels.proofs.set_entry.Goals as goal
 
 pub bounds-l-s-2 : goal.bounds-l-s-2

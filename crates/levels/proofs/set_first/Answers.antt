@@ -1,11 +1,9 @@
 -- `levels::set_first` stores one first level after another: before each turn those of the persons below the number reached are stored.
-use Prim.Native.Nat.{◌-◌, ◌≤◌}
+use Prim.Native.Nat.{◌-◌}
 use native.Mathlib.Omega.{arith}
 use mathlib.Core.Path.{◌≡◌, ◌∙◌}
-use lib.ListN.{length}
-use Rattle.policy.specs.Levels.{levels_bytes}
 use Rattle.policy.proofs.LevelBytes.{size_with}
-use Rattle.levels.proofs.LevelLaws.{stored_below, stored_none, stored_more, stored_all}
+use Rattle.levels.proofs.LevelLaws.{stored_none, stored_more, stored_all}
 use borrow.Author.Rules.{rules}
 use Rattle.levels.proofs.set_first.Goals as goal
 

@@ -1,9 +1,7 @@
--- `blank` is `blankNumber` and leaves `blankState`: nothing changes where `lengths` refuses, and otherwise the history is all zero and the
+-- `blank` is `blank_number` and leaves `blank_state`: nothing changes where `lengths` refuses, and otherwise the history is all zero and the
 -- levels are the first ones.
 use mathlib.Core.Path.{sym, ◌∙◌}
 use Rattle.loaded.proofs.CallLaws.{passed_ready, blank_refused, blank_made}
-use Rattle.loaded.proofs.blank.Lts as lts
-use borrow.Author.Rules.{rules}
 use Rattle.loaded.proofs.blank.Goals as goal
 
 pub returns-then-number-ne-GRANTED : goal.returns-then-number-ne-GRANTED

@@ -1,8 +1,6 @@
--- `judge` is `judgeNumber`: what `lengths` refuses gets its number, and otherwise `judging` is asked of ready tables, history and levels.
+-- `judge` is `judge_number`: what `lengths` refuses gets its number, and otherwise `judging` is asked of ready tables, history and levels.
 use mathlib.Core.Path.{sym, ◌∙◌}
 use Rattle.loaded.proofs.CallLaws.{passed_ready, judge_refused, judge_parsed}
-use Rattle.loaded.proofs.judge.Lts as lts
-use borrow.Author.Rules.{rules}
 use Rattle.loaded.proofs.judge.Goals as goal
 
 pub returns-then-number-ne-GRANTED : goal.returns-then-number-ne-GRANTED

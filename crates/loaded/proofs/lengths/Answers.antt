@@ -2,8 +2,6 @@
 -- tables that a load gives.
 use mathlib.Core.Path.{sym}
 use Rattle.loaded.proofs.CallLaws.{wrong_length, wrong_levels, all_pass}
-use Rattle.loaded.proofs.lengths.Lts as lts
-use borrow.Author.Rules.{rules}
 use Rattle.loaded.proofs.lengths.Goals as goal
 
 pub returns-then-h-ne-BYTES : goal.returns-then-h-ne-BYTES

@@ -1,8 +1,6 @@
 -- `no_run` is the definition's refused run: the number, and counts 0 and 0.
 use mathlib.Core.Path.{refl}
 use Rattle.loaded.specs.Refused.{no_run}
-use Rattle.loaded.proofs.no_run.Lts as lts
-use borrow.Author.Rules.{rules}
 use Rattle.loaded.proofs.no_run.Goals as goal
 
 pub returns : goal.returns

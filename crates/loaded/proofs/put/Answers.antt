@@ -1,7 +1,6 @@
--- `put` is `judgeNumber` and leaves `putState`: nothing changes where `lengths` refuses, and otherwise `putting` says both.
+-- `put` is `judge_number` and leaves `put_state`: nothing changes where `lengths` refuses, and otherwise `putting` says both.
 use mathlib.Core.Path.{sym, ◌∙◌}
 use Rattle.loaded.proofs.CallLaws.{passed_ready, judge_refused, put_refused}
-use borrow.Author.Rules.{rules}
 use Rattle.loaded.proofs.put.Goals as goal
 
 pub returns-then-number-ne-GRANTED : goal.returns-then-number-ne-GRANTED

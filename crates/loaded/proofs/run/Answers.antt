@@ -1,9 +1,7 @@
--- `run` returns `ran` and leaves `runState` and `runAnswers`: nothing changes where `lengths` refuses or answer bytes are too few, and
+-- `run` returns `ran` and leaves `run_state` and `run_answers`: nothing changes where `lengths` refuses or answer bytes are too few, and
 -- otherwise `running` says all three.
 use mathlib.Core.Path.{sym, ◌∙◌}
 use Rattle.loaded.proofs.CallLaws.{passed_ready, run_stopped, run_without_room, run_done}
-use Rattle.loaded.proofs.run.Lts as lts
-use borrow.Author.Rules.{rules}
 use Rattle.loaded.proofs.run.Goals as goal
 
 pub returns-then-number-ne-GRANTED : goal.returns-then-number-ne-GRANTED

@@ -1,7 +1,6 @@
 -- `standing` is the definition's: what `lengths` refuses, then 13, then the stored level and the ones of the two sets of what the person
 -- did.
 use mathlib.Core.Path.{sym, ap, ◌∙◌}
-use borrow.Author.Tests.{not-true, not-false}
 use Rattle.policy.specs.Tables.{person_declared}
 use Rattle.policy.specs.Request.{set_of}
 use Rattle.policy.specs.Levels.{level_at}
@@ -9,8 +8,6 @@ use Rattle.policy.proofs.Requests.{person_below_lem}
 use Rattle.past.specs.Past.{past_of}
 use Rattle.questions.proofs.AskingLaws.{same_person}
 use Rattle.loaded.proofs.CallLaws.{passed_ready, standing_refused, standing_undeclared, standing_is}
-use Rattle.loaded.proofs.standing.Lts as lts
-use borrow.Author.Rules.{rules}
 use Rattle.loaded.proofs.standing.Goals as goal
 
 pub returns-then-number-ne-GRANTED : goal.returns-then-number-ne-GRANTED

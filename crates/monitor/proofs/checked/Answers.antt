@@ -3,8 +3,6 @@
 use mathlib.Core.Path.{sym, ◌∙◌}
 use Rattle.loaded.proofs.CallLaws.{wrong_length, wrong_levels, all_pass}
 use Rattle.monitor.proofs.CallLaws.{not_given}
-use Rattle.monitor.proofs.checked.Lts as lts
-use borrow.Author.Rules.{rules}
 use Rattle.monitor.proofs.checked.Goals as goal
 
 pub returns-then-h-ne-BYTES : goal.returns-then-h-ne-BYTES

@@ -2,8 +2,6 @@
 use mathlib.Core.Path.{sym, ◌∙◌}
 use Rattle.loaded.proofs.CallLaws.{passed_ready}
 use Rattle.planning.proofs.PlanLaws.{checks_refuse}
-use Rattle.monitor.proofs.plan_bytes.Lts as lts
-use borrow.Author.Rules.{rules}
 use Rattle.monitor.proofs.plan_bytes.Goals as goal
 
 pub returns-then-number-ne-GRANTED : goal.returns-then-number-ne-GRANTED

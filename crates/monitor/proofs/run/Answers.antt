@@ -1,8 +1,6 @@
 -- `run` gives what `checked` refuses its number, and leaves the rest to the call on tables that a load gives.
 use mathlib.Core.Path.{sym, ◌∙◌}
 use Rattle.loaded.proofs.CallLaws.{passed_ready, run_stopped}
-use Rattle.monitor.proofs.run.Lts as lts
-use borrow.Author.Rules.{rules}
 use Rattle.monitor.proofs.run.Goals as goal
 
 pub returns-then-number-ne-GRANTED : goal.returns-then-number-ne-GRANTED

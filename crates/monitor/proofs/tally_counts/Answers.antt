@@ -2,8 +2,6 @@
 use mathlib.Core.Path.{sym, ◌∙◌}
 use Rattle.loaded.proofs.CallLaws.{passed_ready}
 use Rattle.tallying.proofs.TallyLaws.{tally_stopped}
-use Rattle.monitor.proofs.tally_counts.Lts as lts
-use borrow.Author.Rules.{rules}
 use Rattle.monitor.proofs.tally_counts.Goals as goal
 
 pub returns-then-refusal-ne-GRANTED : goal.returns-then-refusal-ne-GRANTED

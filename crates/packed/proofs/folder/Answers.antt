@@ -2,8 +2,6 @@
 use mathlib.Core.Path.{sym}
 use Rattle.packed.specs.Packed.{level_in, folder_of}
 use Rattle.packed.proofs.PackedLaws.{folder_at_lem}
-use Rattle.packed.proofs.folder.Lts as lts
-use borrow.Author.Rules.{rules}
 use Rattle.packed.proofs.folder.Goals as goal
 
 pub returns : goal.returns

@@ -4,8 +4,6 @@ use Prim.Native.Nat.{◌%◌}
 use mathlib.Core.Path.{◌≡◌, sym}
 use Rattle.packed.specs.Packed.{level_in, person_of}
 use Rattle.packed.proofs.PackedLaws.{person_at_lem}
-use Rattle.packed.proofs.person.Lts as lts
-use borrow.Author.Rules.{rules}
 use Rattle.packed.proofs.person.Goals as goal
 
 pub returns : goal.returns

@@ -8,7 +8,6 @@ use Rattle.bits.specs.Bits.{mask_below}
 use Rattle.bits.proofs.Masks.{mask_lt}
 use Rattle.policy.specs.Tables.{person_declared}
 use Rattle.recorded.proofs.Recorded.{starts_word}
-use borrow.Author.Rules.{rules}
 use Rattle.past.proofs.has_started_declared.Goals as goal
 
 pub returns-then-started-eq0 : goal.returns-then-started-eq0

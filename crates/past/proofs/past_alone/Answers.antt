@@ -2,8 +2,6 @@
 use mathlib.Core.Path.{◌∙◌}
 use Rattle.policy.proofs.Requests.{person_below_lem}
 use Rattle.recorded.proofs.GatheringLaws.{stepped_among}
-use Rattle.past.proofs.past_alone.Lts as lts
-use borrow.Author.Rules.{rules}
 use Rattle.past.proofs.past_alone.Goals as goal
 
 pub stepped_by-stepped-requires : goal.stepped_by-stepped-requires

@@ -16,7 +16,6 @@ use Rattle.recorded.specs.Recorded.{stepped_at, started}
 use Rattle.past.specs.Turns.{rights_with}
 use Rattle.recorded.proofs.FolderSets.{folders_low, folders_high}
 use Rattle.past.proofs.Gathered.{past_start, past_whole}
-use borrow.Author.Rules.{rules}
 use Rattle.past.proofs.past_of.Goals as goal
 
 answer : (t : Tables) (h : List ℕ) (s : ℕ) → person_declared t s ≡ true → {persons steps rights : ℕ} {starts : Bool}

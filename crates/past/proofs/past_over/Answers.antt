@@ -22,7 +22,6 @@ use Rattle.recorded.specs.Visits.{Leads}
 use Rattle.past.proofs.Gathered.{past_half}
 use Rattle.recorded.proofs.Recorded.{word_reads, word_writes}
 use Rattle.recorded.proofs.VisitLaws.{visit_end}
-use borrow.Author.Rules.{rules}
 use Rattle.past.proofs.past_over.Goals as goal
 
 words-lead : (t : Tables) (h : List ℕ) (s : ℕ) → person_declared t s ≡ true → given t ≡ true → (first : ℕ)

@@ -3,7 +3,6 @@ use Prim.Native.Nat.{◌%◌}
 use native.Mathlib.Omega.{arith}
 use mathlib.Core.Path.{◌≡◌, refl, ◌∙◌}
 use Rattle.past.specs.Turns.{past_turn, past_visiting}
-use Rattle.recorded.specs.Visits.{Leads}
 use Rattle.recorded.proofs.Recorded.{entry_below}
 use Rattle.recorded.proofs.VisitLaws.{visited_lt, visit_less, visit_next, visit_end}
 use borrow.Author.Rules.{rules}

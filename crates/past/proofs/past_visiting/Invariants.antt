@@ -1,11 +1,6 @@
 -- `past::past_visiting` answers what a person did after the folders of a set: before each turn the folders that are left lead to it.
-use Prim.Native.Nat.{◌%◌}
-use native.Mathlib.Omega.{arith}
-use mathlib.Core.Path.{◌≡◌, refl, ◌∙◌}
 use Rattle.past.specs.Turns.{past_turn, past_visiting}
 use Rattle.recorded.specs.Visits.{Leads}
-use Rattle.recorded.proofs.Recorded.{entry_below}
-use Rattle.recorded.proofs.VisitLaws.{visited_lt, visit_less, visit_next, visit_end}
 use Rattle.past.proofs.past_visiting.Given as goal
 
 abbrev pub invariant-loop-rest : goal.invariant-loop-rest

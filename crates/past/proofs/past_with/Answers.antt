@@ -5,7 +5,6 @@ use native.Mathlib.Omega.{arith}
 use mathlib.Core.Path.{◌≡◌}
 use borrow.Author.Tests.{not-true, not-false}
 use Rattle.past.specs.Turns.{past_with}
-use borrow.Author.Rules.{rules}
 use Rattle.past.proofs.past_with.Goals as goal
 
 pub returns-then-not-folder : goal.returns-then-not-folder

@@ -1,9 +1,8 @@
 -- `persons` is the set of the declared persons: before each turn it has those below the number reached.
-use Prim.Native.Nat.{◌-◌, ◌%◌, ◌≤◌}
+use Prim.Native.Nat.{◌-◌, ◌%◌}
 use native.Mathlib.Omega.{arith}
 use mathlib.Core.Path.{◌≡◌, sym, ◌∙◌}
 use borrow.Author.Tests.{lt-ltb}
-use Rattle.bits.specs.Bits.{mask_below}
 use Rattle.bits.proofs.Masks.{mask_start, mask_step}
 use Rattle.policy.specs.Tables.{person_at, person_declared}
 use borrow.Author.Rules.{rules}

@@ -1,11 +1,8 @@
 -- `persons` is the set of the declared persons: before each turn it has those below the number reached.
-use Prim.Native.Nat.{◌-◌, ◌%◌, ◌≤◌}
-use native.Mathlib.Omega.{arith}
-use mathlib.Core.Path.{◌≡◌, sym, ◌∙◌}
-use borrow.Author.Tests.{lt-ltb}
+use Prim.Native.Nat.{◌-◌, ◌≤◌}
+use mathlib.Core.Path.{◌≡◌}
 use Rattle.bits.specs.Bits.{mask_below}
-use Rattle.bits.proofs.Masks.{mask_start, mask_step}
-use Rattle.policy.specs.Tables.{person_at, person_declared}
+use Rattle.policy.specs.Tables.{person_declared}
 use Rattle.past.proofs.persons.Given as goal
 
 abbrev pub invariant-loop-s : goal.invariant-loop-s

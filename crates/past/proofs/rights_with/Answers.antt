@@ -7,7 +7,6 @@ use lib.Dec.{lit≤}
 use lib.Pow.{shl_exact}
 use Rattle.recorded.specs.Recorded.{with_bit_if}
 use Rattle.past.specs.Turns.{rights_with}
-use borrow.Author.Rules.{rules}
 use Rattle.past.proofs.rights_with.Goals as goal
 
 pub returns : goal.returns

@@ -1,12 +1,9 @@
 -- `is_led_to` holds where some step leads to q: before each turn no step below the number reached does.
 use Prim.Native.Nat.{◌≤◌, ◌-◌}
-use native.Mathlib.Omega.{arith}
-use mathlib.Core.Path.{◌≡◌, sym, ◌∙◌}
+use mathlib.Core.Path.{◌≡◌}
 use mathlib.Core.Bool.{false}
 use Rattle.bits.specs.Bounded.{any_below}
-use Rattle.bits.proofs.Bounds.{any_start, some_any, any_none}
 use Rattle.pipeline.specs.Steps.{leads_among}
-use Rattle.pipeline.proofs.is_led_to.Lts as lts
 use Rattle.pipeline.proofs.is_led_to.Given as goal
 
 abbrev pub invariant-loop-p : goal.invariant-loop-p

@@ -1,8 +1,5 @@
 -- `leads_to` is the three tests of one step: done, enables q, and enables no step done.
-use borrow.Author.Tests.{not-true, not-false}
 use Rattle.pipeline.specs.Steps.{leads}
-use Rattle.pipeline.proofs.leads_to.Lts as lts
-use borrow.Author.Rules.{rules}
 use Rattle.pipeline.proofs.leads_to.Goals as goal
 
 pub returns-then-not-bit16 : goal.returns-then-not-bit16

@@ -1,8 +1,8 @@
 -- `led_steps` joins what each step leads to: before turn p the set has the steps to which a step below p leads.
-use Prim.Native.Nat.{◌-◌, ◌≤◌}
+use Prim.Native.Nat.{◌-◌}
 use native.Mathlib.Omega.{arith}
 use mathlib.Core.Path.{◌≡◌, ◌∙◌}
-use Rattle.pipeline.proofs.NextLaws.{next_below, next_start, next_more, next_all}
+use Rattle.pipeline.proofs.NextLaws.{next_start, next_more, next_all}
 use borrow.Author.Rules.{rules}
 use Rattle.pipeline.proofs.led_steps.Goals as goal
 

@@ -1,8 +1,7 @@
 -- `led_steps` joins what each step leads to: before turn p the set has the steps to which a step below p leads.
 use Prim.Native.Nat.{◌-◌, ◌≤◌}
-use native.Mathlib.Omega.{arith}
-use mathlib.Core.Path.{◌≡◌, ◌∙◌}
-use Rattle.pipeline.proofs.NextLaws.{next_below, next_start, next_more, next_all}
+use mathlib.Core.Path.{◌≡◌}
+use Rattle.pipeline.proofs.NextLaws.{next_below}
 use Rattle.pipeline.proofs.led_steps.Given as goal
 
 abbrev pub invariant-loop-p : goal.invariant-loop-p

@@ -1,8 +1,6 @@
 -- `permits` is the step rule over the sets: create needs that no step is done, another step one that leads to it.
 use borrow.Author.Tests.{eq-eqb, ne_eqb}
 use Rattle.pipeline.specs.Steps.{pipeline_in}
-use Rattle.pipeline.proofs.permits.Lts as lts
-use borrow.Author.Rules.{rules}
 use Rattle.pipeline.proofs.permits.Goals as goal
 
 pub returns-then-q-eq0 : goal.returns-then-q-eq0

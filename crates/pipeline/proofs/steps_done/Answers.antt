@@ -1,12 +1,10 @@
 -- `steps_done` is the mask of steps that some of the persons did: before each turn it has those below the number reached, each by one
 -- word of the history.
-use Prim.Native.Nat.{◌≤◌, ◌-◌, ◌%◌}
+use Prim.Native.Nat.{◌-◌, ◌%◌}
 use native.Mathlib.Omega.{arith}
 use mathlib.Core.Path.{◌≡◌, sym, ◌∙◌}
-use Rattle.bits.specs.Bits.{mask_below}
 use Rattle.bits.proofs.Masks.{mask_start, mask_step}
 use Rattle.pipeline.specs.Steps.{done_by}
-use Rattle.pipeline.proofs.steps_done.Lts as lts
 use borrow.Author.Rules.{rules}
 use Rattle.pipeline.proofs.steps_done.Goals as goal
 

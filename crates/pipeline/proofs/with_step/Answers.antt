@@ -1,7 +1,5 @@
 -- `with_step` sets the step's bit exactly where the set of persons who did it is not empty.
 use borrow.Author.Tests.{eq-eqb, ne_eqb}
-use Rattle.pipeline.proofs.with_step.Lts as lts
-use borrow.Author.Rules.{rules}
 use Rattle.pipeline.proofs.with_step.Goals as goal
 
 pub returns-then-doers-ne0 : goal.returns-then-doers-ne0

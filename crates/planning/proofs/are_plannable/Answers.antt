@@ -1,19 +1,9 @@
 -- `are_plannable` asks one job after another: before turn i each of the jobs below i can be planned.
-use Prim.Native.Nat.{◌*◌, ◌-◌, ◌/◌, ◌≤◌}
+use Prim.Native.Nat.{◌*◌, ◌-◌, ◌/◌}
 use native.Mathlib.Omega.{arith}
 use mathlib.Core.Path.{◌≡◌, sym, ◌∙◌}
 use lib.ListN.{length}
-use borrow.Author.Tests.{not-true, not-false}
-use Rattle.planning.proofs.PlannableLaws.{
-  PlannedBelow,
-  planned_more,
-  planned_by,
-  too_long_lem,
-  cut_short,
-  not_planned,
-  all_planned,
-}
-use Rattle.planning.proofs.are_plannable.Lts as lts
+use Rattle.planning.proofs.PlannableLaws.{planned_more, planned_by, too_long_lem, cut_short, not_planned, all_planned}
 use borrow.Author.Rules.{rules}
 use Rattle.planning.proofs.are_plannable.Goals as goal
 

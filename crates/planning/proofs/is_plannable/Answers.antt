@@ -2,8 +2,6 @@
 use mathlib.Core.Path.{ap₂, ◌∙◌}
 use mathlib.Core.Bool.{◌&&◌}
 use Rattle.planning.specs.Planning.{plannable_by}
-use Rattle.planning.proofs.is_plannable.Lts as lts
-use borrow.Author.Rules.{rules}
 use Rattle.planning.proofs.is_plannable.Goals as goal
 
 pub returns : goal.returns

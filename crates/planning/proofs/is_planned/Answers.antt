@@ -1,8 +1,6 @@
 -- `is_planned` tells a read, a write, or a step in range.
 use mathlib.Core.Path.{sym, ◌∙◌}
 use Rattle.planning.specs.Planning.{planned_action}
-use Rattle.planning.proofs.is_planned.Lts as lts
-use borrow.Author.Rules.{rules}
 use Rattle.planning.proofs.is_planned.Goals as goal
 
 pub returns-then-is_either : goal.returns-then-is_either

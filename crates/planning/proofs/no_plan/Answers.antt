@@ -1,7 +1,6 @@
 -- `no_plan` is a refused plan: its number, and zeros.
 use mathlib.Core.Path.{refl}
 use Rattle.planning.specs.Planning.{no_plan}
-use borrow.Author.Rules.{rules}
 use Rattle.planning.proofs.no_plan.Goals as goal
 
 pub returns : goal.returns

@@ -1,8 +1,6 @@
 -- `order` sorts by the rows of what was looked up about the jobs.
 use Rattle.listed.proofs.JobBytes.{jobs_length}
 use Rattle.planning.proofs.Orders.{sorted_jobs}
-use Rattle.planning.proofs.order.Lts as lts
-use borrow.Author.Rules.{rules}
 use Rattle.planning.proofs.order.Goals as goal
 
 pub returns : goal.returns

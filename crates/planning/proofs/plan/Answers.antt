@@ -1,13 +1,10 @@
 -- `plan` refuses as the checks do, and leaves jobs that can be planned to `plan_sorted`.
 use native.Mathlib.Omega.{arith}
 use mathlib.Core.Path.{sym, ◌∙◌}
-use borrow.Author.Tests.{not-true, not-false}
 use Rattle.policy.specs.Plans.{jobs_of}
 use Rattle.loaded.proofs.CallLaws.{passed_ready}
 use Rattle.planning.proofs.PlannableLaws.{whole_jobs, few_bytes}
 use Rattle.planning.proofs.PlanLaws.{checks_refuse, not_plannable, few_jobs, all_jobs}
-use Rattle.planning.proofs.plan.Lts as lts
-use borrow.Author.Rules.{rules}
 use Rattle.planning.proofs.plan.Goals as goal
 
 pub returns-then-number-ne-GRANTED : goal.returns-then-number-ne-GRANTED

@@ -3,8 +3,6 @@ use borrow.Author.Tests.{not-true, not-false}
 use Rattle.policy.specs.Calls.{state}
 use Rattle.listed.proofs.JobBytes.{jobs_length}
 use Rattle.planning.proofs.PlanLaws.{kept_back, places_below, granted_plan, refused_plan}
-use Rattle.planning.proofs.plan_sorted.Lts as lts
-use borrow.Author.Rules.{rules}
 use Rattle.planning.proofs.plan_sorted.Goals as goal
 
 pub returns-then-not-found : goal.returns-then-not-found

@@ -1,6 +1,5 @@
 -- `putting::granted_by` is the test of a number against 0, as 1 or 0.
 use borrow.Author.Tests.{ne_eqb}
-use borrow.Author.Rules.{rules}
 use Rattle.putting.proofs.granted_by.Goals as goal
 
 pub returns-then-answer-eq-GRANTED : goal.returns-then-answer-eq-GRANTED

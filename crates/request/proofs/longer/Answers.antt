@@ -1,8 +1,6 @@
 -- `longer` is 1 for kind 19 alone.
 use native.Mathlib.Omega.{arith}
 use borrow.Author.Tests.{eq-eqb, ne_eqb}
-use Rattle.request.proofs.longer.Lts as lts
-use borrow.Author.Rules.{rules}
 use Rattle.request.proofs.longer.Goals as goal
 
 pub returns-in-19 : goal.returns-in-19

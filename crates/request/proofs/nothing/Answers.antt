@@ -1,8 +1,6 @@
 -- `nothing` is no request: kind 0 is none of the four.
 use mathlib.Core.Path.{refl}
 use Rattle.request.specs.Parsed.{request_for, as_request}
-use Rattle.request.proofs.nothing.Lts as lts
-use borrow.Author.Rules.{rules}
 use Rattle.request.proofs.nothing.Goals as goal
 
 pub returns : goal.returns

@@ -4,8 +4,6 @@ use mathlib.Core.Path.{sym, ◌∙◌}
 use Rattle.request.specs.Parsed.{as_request}
 use Rattle.request.proofs.RequestLaws.{is_unknown, long_fields, next_unknown}
 use Rattle.request.proofs.WholeLaws.{next_known}
-use Rattle.request.proofs.parse.Lts as lts
-use borrow.Author.Rules.{rules}
 use Rattle.request.proofs.parse.Goals as goal
 
 pub returns-then-kind-lt16 : goal.returns-then-kind-lt16

@@ -3,8 +3,6 @@ use native.Mathlib.Omega.{arith}
 use mathlib.Core.Path.{sym, ◌∙◌}
 use Rattle.request.specs.Parsed.{as_request}
 use Rattle.request.proofs.RequestLaws.{too_short, is_unknown, unknown_short, short_fields, next_short}
-use Rattle.request.proofs.parse_short.Lts as lts
-use borrow.Author.Rules.{rules}
 use Rattle.request.proofs.parse_short.Goals as goal
 
 pub returns-then-left-lt3 : goal.returns-then-left-lt3

@@ -3,8 +3,6 @@ use native.Mathlib.Omega.{arith}
 use mathlib.Core.Path.{sym}
 use Rattle.request.specs.Parsed.{as_request}
 use Rattle.request.proofs.WholeLaws.{next_known, whole_long, whole_low, whole_high, whole_there, whole_fields}
-use Rattle.request.proofs.parse_whole.Lts as lts
-use borrow.Author.Rules.{rules}
 use Rattle.request.proofs.parse_whole.Goals as goal
 
 pub bounds-bytes-0 : goal.bounds-bytes-0

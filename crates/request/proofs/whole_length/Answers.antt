@@ -3,8 +3,6 @@ use native.Mathlib.Omega.{arith}
 use mathlib.Core.Path.{sym, ◌∙◌}
 use Rattle.request.proofs.RequestLaws.{too_short, is_step_lem, is_unknown, cut_step}
 use Rattle.request.proofs.WholeLaws.{none_whole, three_whole, step_whole}
-use Rattle.request.proofs.whole_length.Lts as lts
-use borrow.Author.Rules.{rules}
 use Rattle.request.proofs.whole_length.Goals as goal
 
 pub returns-then-left-lt3 : goal.returns-then-left-lt3

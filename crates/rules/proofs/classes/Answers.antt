@@ -1,9 +1,8 @@
 -- `classes` gathers the sets of the firms of each class: before each turn they have the firms below the number reached.
-use Prim.Native.Nat.{◌-◌, ◌%◌, ◌≤◌}
+use Prim.Native.Nat.{◌-◌, ◌%◌}
 use native.Mathlib.Omega.{arith}
 use mathlib.Core.Path.{◌≡◌, ◌∙◌}
-use Rattle.rules.proofs.ClassLaws.{class_below, ClassesBelow, classes_none, classes_more, classes_all}
-use Rattle.rules.proofs.classes.Lts as lts
+use Rattle.rules.proofs.ClassLaws.{class_below, classes_none, classes_more, classes_all}
 use borrow.Author.Rules.{rules}
 use Rattle.rules.proofs.classes.Goals as goal
 

@@ -1,9 +1,6 @@
 -- `classes` gathers the sets of the firms of each class: before each turn they have the firms below the number reached.
-use Prim.Native.Nat.{◌-◌, ◌%◌, ◌≤◌}
-use native.Mathlib.Omega.{arith}
-use mathlib.Core.Path.{◌≡◌, ◌∙◌}
-use Rattle.rules.proofs.ClassLaws.{class_below, ClassesBelow, classes_none, classes_more, classes_all}
-use Rattle.rules.proofs.classes.Lts as lts
+use Prim.Native.Nat.{◌-◌, ◌≤◌}
+use Rattle.rules.proofs.ClassLaws.{ClassesBelow}
 use Rattle.rules.proofs.classes.Given as goal
 
 abbrev pub invariant-loop-f : goal.invariant-loop-f

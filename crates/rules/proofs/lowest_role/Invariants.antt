@@ -1,14 +1,10 @@
 -- `lowest_role` finds a role that covers the rights: before each turn no role below the number reached does.
-use Prim.Native.Nat.{◌-◌, ◌≤◌, ◌<◌}
-use native.Mathlib.Omega.{arith}
-use mathlib.Core.Path.{◌≡◌, sym, ◌∙◌}
+use Prim.Native.Nat.{◌-◌, ◌≤◌}
+use mathlib.Core.Path.{◌≡◌}
 use mathlib.Core.Bool.{false}
 use lib.ListN.{get_or}
-use borrow.Author.Tests.{lt-ltb, le-ltb}
 use Rattle.bits.specs.Bounded.{any_below}
-use Rattle.bits.proofs.Bounds.{any_start, some_any, any_none}
-use Rattle.rules.specs.Sets.{covers, roles_in}
-use Rattle.rules.proofs.lowest_role.Lts as lts
+use Rattle.rules.specs.Sets.{covers}
 use Rattle.rules.proofs.lowest_role.Given as goal
 
 abbrev pub invariant-loop-k : goal.invariant-loop-k

@@ -1,12 +1,8 @@
 -- `role_rights` copies the rights of each role: before each turn those of the roles below the number reached are there.
-use Prim.Native.Nat.{ℕ, ◌+◌, ◌-◌, ◌≤◌}
-use native.Mathlib.Omega.{arith}
-use mathlib.Core.Path.{◌≡◌, refl, ◌∙◌}
-use lib.ListN.{length-replicate}
+use Prim.Native.Nat.{◌-◌, ◌≤◌}
+use mathlib.Core.Path.{◌≡◌}
 use Rattle.bits.specs.Filling.{Filled}
-use Rattle.bits.proofs.FillingLaws.{fill_none, fill_more}
 use Rattle.policy.specs.Tables.{role_at}
-use Rattle.rules.proofs.role_rights.Lts as lts
 use Rattle.rules.proofs.role_rights.Given as goal
 
 abbrev pub invariant-loop-k : goal.invariant-loop-k

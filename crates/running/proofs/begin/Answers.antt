@@ -2,8 +2,6 @@
 use native.Mathlib.Omega.{arith}
 use mathlib.Core.Path.{refl}
 use Rattle.putting.proofs.Turns.{done_none}
-use Rattle.running.proofs.begin.Lts as lts
-use borrow.Author.Rules.{rules}
 use Rattle.running.proofs.begin.Goals as goal
 
 pub returns-then-few : goal.returns-then-few

@@ -3,8 +3,6 @@ use native.Mathlib.Omega.{arith}
 use mathlib.Core.Path.{sym}
 use Rattle.policy.specs.Calls.{state}
 use Rattle.putting.proofs.Turns.{done_room}
-use Rattle.running.proofs.run.Lts as lts
-use borrow.Author.Rules.{rules}
 use Rattle.running.proofs.run.Goals as goal
 
 pub run_from-requires : goal.run_from-requires

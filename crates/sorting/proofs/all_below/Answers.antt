@@ -1,12 +1,10 @@
 -- `all_below` puts each place below n into the set, the lowest first.
-use Prim.Native.Nat.{ℕ, ◌-◌, ◌≤◌}
+use Prim.Native.Nat.{ℕ, ◌-◌}
 use native.Mathlib.Nat.{mod-eq_of_lt}
 use native.Mathlib.Omega.{arith}
 use mathlib.Core.Path.{◌≡◌, sym, ap, ◌∙◌}
-use mathlib.Core.Bool.{true}
 use Rattle.bits.specs.Bits.{with_bit, mask_below}
 use Rattle.bits.proofs.Masks.{mask_start, mask_step}
-use Rattle.sorting.proofs.all_below.Lts as lts
 use borrow.Author.Rules.{rules}
 use Rattle.sorting.proofs.all_below.Goals as goal
 

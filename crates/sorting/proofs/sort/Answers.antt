@@ -1,9 +1,8 @@
 -- `sort` takes a free place in each turn: before turn k the first k positions are places taken, in order, and the others are pending.
-use Prim.Native.Nat.{◌-◌, ◌^◌, ◌≤◌, ◌<◌}
+use Prim.Native.Nat.{◌-◌}
 use mathlib.Core.Path.{sym}
 use mathlib.Core.Bool.{false≢true}
-use Rattle.sorting.proofs.Turns.{Taken, taken_none, taken_turn, none_free, taken_all, taken_blocked}
-use Rattle.sorting.proofs.sort.Lts as lts
+use Rattle.sorting.proofs.Turns.{taken_none, taken_turn, none_free, taken_all, taken_blocked}
 use borrow.Author.Rules.{rules}
 use Rattle.sorting.proofs.sort.Goals as goal
 

@@ -1,8 +1,6 @@
 -- `begin` leaves a run of few requests as it is, and comes as far as `kept::run` does with others.
 use native.Mathlib.Omega.{arith}
 use Rattle.tallying.proofs.CountTurns.{begun_none}
-use Rattle.tallying.proofs.begin.Lts as lts
-use borrow.Author.Rules.{rules}
 use Rattle.tallying.proofs.begin.Goals as goal
 
 pub returns-then-due-lt-FEW : goal.returns-then-due-lt-FEW

@@ -2,21 +2,10 @@
 -- far, with the rest of the answers, what all of them give on those before.
 use Prim.Native.Nat.{ℕ, ◌-◌, ◌%◌}
 use native.Mathlib.Omega.{arith}
-use mathlib.Core.Path.{ap, ◌∙◌}
-use lib.ListN.{length}
+use mathlib.Core.Path.{ap}
 use borrow.Author.Rules.{part_to_end}
 use Rattle.policy.specs.Tables.{folder_at}
-use Rattle.tallying.proofs.AnswerTurns.{
-  Answered,
-  answered_none,
-  answered_within,
-  answered_further,
-  answered_more,
-  answered_out,
-  answered_all,
-}
-use Rattle.tallying.proofs.count_answers.Lts as lts
-use borrow.Author.Rules.{rules}
+use Rattle.tallying.proofs.AnswerTurns.{answered_none, answered_within, answered_further, answered_more, answered_out, answered_all}
 use Rattle.tallying.proofs.count_answers.Goals as goal
 
 pub loop-at-init : goal.loop-at-init

@@ -1,21 +1,8 @@
 -- `count_answers` raises the count of each request, up to the end of the answers: at each turn the rest of the requests gives on the counts so
 -- far, with the rest of the answers, what all of them give on those before.
-use Prim.Native.Nat.{ℕ, ◌-◌, ◌%◌}
-use native.Mathlib.Omega.{arith}
-use mathlib.Core.Path.{ap, ◌∙◌}
+use Prim.Native.Nat.{◌-◌}
 use lib.ListN.{length}
-use borrow.Author.Rules.{part_to_end}
-use Rattle.policy.specs.Tables.{folder_at}
-use Rattle.tallying.proofs.AnswerTurns.{
-  Answered,
-  answered_none,
-  answered_within,
-  answered_further,
-  answered_more,
-  answered_out,
-  answered_all,
-}
-use Rattle.tallying.proofs.count_answers.Lts as lts
+use Rattle.tallying.proofs.AnswerTurns.{Answered}
 use Rattle.tallying.proofs.count_answers.Given as goal
 
 abbrev pub invariant-loop-at : goal.invariant-loop-at

@@ -3,8 +3,6 @@ use native.Mathlib.Omega.{arith}
 use borrow.Author.Rules.{part_to_end}
 use Rattle.putting.proofs.Turns.{done_granted}
 use Rattle.tallying.proofs.CountTurns.{together, counted_whole}
-use Rattle.tallying.proofs.run.Lts as lts
-use borrow.Author.Rules.{rules}
 use Rattle.tallying.proofs.run.Goals as goal
 
 pub run_few-rest-requires : goal.run_few-rest-requires

@@ -4,8 +4,6 @@ use mathlib.Core.Path.{refl}
 use Rattle.policy.specs.Calls.{state}
 use Rattle.putting.proofs.Turns.{done_none}
 use Rattle.tallying.proofs.CountTurns.{few_counted}
-use Rattle.tallying.proofs.run_few.Lts as lts
-use borrow.Author.Rules.{rules}
 use Rattle.tallying.proofs.run_few.Goals as goal
 
 pub run_from-ran-requires : goal.run_from-ran-requires

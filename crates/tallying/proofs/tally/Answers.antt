@@ -1,10 +1,8 @@
--- `tally` returns `tallied` and leaves `tallyState` and `tallyCounts`: nothing changes where `lengths` refuses or other than 2,080 counts
+-- `tally` returns `tallied` and leaves `tally_state` and `tally_counts`: nothing changes where `lengths` refuses or other than 2,080 counts
 -- are lent, and otherwise `run` says all three.
 use mathlib.Core.Path.{sym, ◌∙◌}
 use Rattle.loaded.proofs.CallLaws.{passed_ready}
 use Rattle.tallying.proofs.TallyLaws.{tally_stopped, tally_misfit, tally_done}
-use Rattle.tallying.proofs.tally.Lts as lts
-use borrow.Author.Rules.{rules}
 use Rattle.tallying.proofs.tally.Goals as goal
 
 pub returns-then-number-ne-GRANTED : goal.returns-then-number-ne-GRANTED

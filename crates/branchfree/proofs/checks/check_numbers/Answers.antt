@@ -1,8 +1,6 @@
 -- `check_numbers` is the list of the numbers.
 use mathlib.Core.Path.{refl}
 use Rattle.branchfree.specs.Failing.{number_at}
-use Rattle.branchfree.proofs.checks.check_numbers.Lts as lts
-use borrow.Author.Rules.{rules}
 use Rattle.branchfree.proofs.checks.check_numbers.Goals as goal
 
 pub returns : goal.returns

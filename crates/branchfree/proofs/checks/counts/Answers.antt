@@ -1,8 +1,6 @@
 -- `counts` is 1 where both of its tests hold.
 use mathlib.Core.Bool.{not}
 use Rattle.branchfree.proofs.FailingLaws.{and_ones}
-use Rattle.branchfree.proofs.checks.counts.Lts as lts
-use borrow.Author.Rules.{rules}
 use Rattle.branchfree.proofs.checks.counts.Goals as goal
 
 pub returns : goal.returns

@@ -1,9 +1,6 @@
 -- `first_check` is the first check that fails: the bits are those of the six tests, and its place is that of the lowest.
-use mathlib.Core.Path.{◌∙◌}
 use lib.Bits.{bit_or}
 use Rattle.branchfree.proofs.FailingLaws.{first_below, first_is}
-use Rattle.branchfree.proofs.checks.first_check.Lts as lts
-use borrow.Author.Rules.{rules}
 use Rattle.branchfree.proofs.checks.first_check.Goals as goal
 
 pub returns : goal.returns

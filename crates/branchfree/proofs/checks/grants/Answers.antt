@@ -1,8 +1,6 @@
 -- `grants` is the list of the grants.
 use mathlib.Core.Path.{refl}
 use Rattle.branchfree.specs.Failing.{grant_at}
-use Rattle.branchfree.proofs.checks.grants.Lts as lts
-use borrow.Author.Rules.{rules}
 use Rattle.branchfree.proofs.checks.grants.Goals as goal
 
 pub returns : goal.returns

@@ -1,10 +1,8 @@
 -- `level_check` has the bits of the rank and of the compartments where low-water is in force and asks about the request.
 use mathlib.Core.Path.{sym, ◌∙◌}
-use mathlib.Core.Bool.{◌&&◌}
 use lib.Dec.{lit<}
 use Rattle.branchfree.specs.Failing.{rank_lacks, compartment_lacks}
 use Rattle.branchfree.proofs.FailingLaws.{two_checks, shifted}
-use Rattle.branchfree.proofs.checks.level_check.Lts as lts
 use borrow.Author.Rules.{rules}
 use Rattle.branchfree.proofs.checks.level_check.Goals as goal
 

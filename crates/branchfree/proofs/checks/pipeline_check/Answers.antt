@@ -6,8 +6,6 @@ use Prim.Native.Nat.{◌%◌}
 use Rattle.bits.specs.Bits.{bit}
 use Rattle.policy.specs.Tables.{pipeline_rule}
 use Rattle.branchfree.proofs.FailingLaws.{and_ones, shifted, in_force_lem, not_in_force}
-use Rattle.branchfree.proofs.checks.pipeline_check.Lts as lts
-use borrow.Author.Rules.{rules}
 use Rattle.branchfree.proofs.checks.pipeline_check.Goals as goal
 
 pub returns-then-bit8 : goal.returns-then-bit8

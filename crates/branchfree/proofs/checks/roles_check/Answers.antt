@@ -2,13 +2,9 @@
 use mathlib.Core.Path.{sym, ◌∙◌}
 use lib.Dec.{eqb, lit<}
 use lib.Bits.{bit_and}
-use mathlib.Core.Bool.{◌&&◌}
-use Prim.Native.Nat.{◌%◌}
 use Rattle.bits.specs.Bits.{bit}
 use Rattle.policy.specs.Tables.{roles_rule}
 use Rattle.branchfree.proofs.FailingLaws.{shifted, in_force_lem, not_in_force}
-use Rattle.branchfree.proofs.checks.roles_check.Lts as lts
-use borrow.Author.Rules.{rules}
 use Rattle.branchfree.proofs.checks.roles_check.Goals as goal
 
 pub returns-then-bit8 : goal.returns-then-bit8

@@ -1,8 +1,6 @@
 -- `unknown_check` is 1 where a number is out of range or a set is marked.
 use mathlib.Core.Bool.{◌||◌}
-use mathlib.Core.Path.{◌∙◌}
 use Rattle.branchfree.proofs.FailingLaws.{or_ones}
-use Rattle.branchfree.proofs.checks.unknown_check.Lts as lts
 use borrow.Author.Rules.{rules}
 use Rattle.branchfree.proofs.checks.unknown_check.Goals as goal
 

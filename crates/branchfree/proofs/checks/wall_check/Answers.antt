@@ -8,8 +8,6 @@ use Rattle.bits.specs.Bits.{bit}
 use Rattle.branchfree.specs.Failing.{rivals}
 use Rattle.policy.specs.Tables.{wall_rule}
 use Rattle.branchfree.proofs.FailingLaws.{and_ones, shifted, in_force_lem, not_in_force}
-use Rattle.branchfree.proofs.checks.wall_check.Lts as lts
-use borrow.Author.Rules.{rules}
 use Rattle.branchfree.proofs.checks.wall_check.Goals as goal
 
 pub returns-then-bit8 : goal.returns-then-bit8

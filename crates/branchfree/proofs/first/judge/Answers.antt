@@ -5,7 +5,6 @@ use Rattle.policy.specs.Request.{has_place}
 use Rattle.branchfree.specs.Kinds.{asks_level}
 use Rattle.branchfree.specs.Failing.{failing_of}
 use Rattle.branchfree.proofs.FailingLaws.{negated}
-use Rattle.branchfree.proofs.first.judge.Lts as lts
 use borrow.Author.Rules.{rules}
 use Rattle.branchfree.proofs.first.judge.Goals as goal
 

@@ -3,8 +3,6 @@ use mathlib.Core.Path.{ap₂, ◌∙◌}
 use lib.Bits.{bit_or}
 use Rattle.branchfree.specs.Kinds.{is_step}
 use Rattle.branchfree.specs.Failing.{others_of}
-use Rattle.branchfree.proofs.first.others_check.Lts as lts
-use borrow.Author.Rules.{rules}
 use Rattle.branchfree.proofs.first.others_check.Goals as goal
 
 pub returns : goal.returns

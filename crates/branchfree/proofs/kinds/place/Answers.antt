@@ -1,12 +1,10 @@
 -- `place` has the numbers that the row of the kind gives: each row holds small numbers, so that no product or sum leaves its width.
 use Prim.Native.Nat.{◌/◌}
 use native.Mathlib.Omega.{arith}
-use mathlib.Core.Path.{◌≡◌, refl}
+use mathlib.Core.Path.{refl}
 use lib.Bits.{bit_and, and_le_l}
 use Rattle.branchfree.specs.Kinds.{placed_by}
 use Rattle.branchfree.proofs.KindLaws.{first_most, by_person_most, by_place_most, first_set_most, product_most}
-use Rattle.branchfree.proofs.kinds.place.Lts as lts
-use borrow.Author.Rules.{rules}
 use Rattle.branchfree.proofs.kinds.place.Goals as goal
 
 pub overflow_add-result : goal.overflow_add-result

@@ -3,8 +3,6 @@ use native.Mathlib.Omega.{arith}
 use lib.Bits.{and_le_l}
 use Rattle.branchfree.specs.Kinds.{right_by}
 use Rattle.branchfree.proofs.KindLaws.{first_right_most}
-use Rattle.branchfree.proofs.kinds.right.Lts as lts
-use borrow.Author.Rules.{rules}
 use Rattle.branchfree.proofs.kinds.right.Goals as goal
 
 pub overflow_add-result : goal.overflow_add-result

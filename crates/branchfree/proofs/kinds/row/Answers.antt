@@ -1,7 +1,5 @@
 -- `row` reads a number of the row of a kind: its place is the kind's modulo 4.
 use Rattle.branchfree.specs.Kinds.{row_of}
-use Rattle.branchfree.proofs.kinds.row.Lts as lts
-use borrow.Author.Rules.{rules}
 use Rattle.branchfree.proofs.kinds.row.Goals as goal
 
 pub returns : goal.returns

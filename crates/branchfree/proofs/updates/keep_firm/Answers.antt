@@ -5,8 +5,6 @@ use lib.Bits.{mask_lt}
 use lib.ListN.{get_or, set}
 use Rattle.bits.proofs.BitLaws.{with_masked_bit_if}
 use Rattle.branchfree.proofs.UpdateLaws.{masked_one}
-use Rattle.branchfree.proofs.updates.keep_firm.Lts as lts
-use borrow.Author.Rules.{rules}
 use Rattle.branchfree.proofs.updates.keep_firm.Goals as goal
 
 pub overflow_shl-firms : goal.overflow_shl-firms

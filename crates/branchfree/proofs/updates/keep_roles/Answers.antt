@@ -1,8 +1,6 @@
 -- `keep_roles` narrows the roles to those that hold the right, where roles are in force and the request is granted.
 use mathlib.Core.Path.{sym, ap, ◌∙◌}
 use lib.ListN.{set}
-use Rattle.branchfree.proofs.updates.keep_roles.Lts as lts
-use borrow.Author.Rules.{rules}
 use Rattle.branchfree.proofs.updates.keep_roles.Goals as goal
 
 pub returns-then-bit8 : goal.returns-then-bit8

@@ -1,8 +1,6 @@
 -- `keep_step` adds the step to those done, and finds those that may be next, where the pipeline is in force and the step is made.
 use mathlib.Core.Path.{refl, sym, ◌∙◌}
 use Rattle.branchfree.proofs.UpdateLaws.{made_one, made_none, either_way}
-use Rattle.branchfree.proofs.updates.keep_step.Lts as lts
-use borrow.Author.Rules.{rules}
 use Rattle.branchfree.proofs.updates.keep_step.Goals as goal
 
 pub returns-then-made-ne0 : goal.returns-then-made-ne0

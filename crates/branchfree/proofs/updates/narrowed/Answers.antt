@@ -1,8 +1,6 @@
 -- `narrowed` is the part of the set in the other, or the set.
 use native.Mathlib.Omega.{arith}
 use Rattle.branchfree.proofs.UpdateLaws.{narrow}
-use Rattle.branchfree.proofs.updates.narrowed.Lts as lts
-use borrow.Author.Rules.{rules}
 use Rattle.branchfree.proofs.updates.narrowed.Goals as goal
 
 pub returns : goal.returns

@@ -4,8 +4,6 @@ use mathlib.Core.Path.{refl, ◌∙◌}
 use mathlib.Core.Bool.{true}
 use lib.Bits.{mask_lt}
 use Rattle.branchfree.proofs.UpdateLaws.{and-true, masked_one, set_if}
-use Rattle.branchfree.proofs.updates.set_bit.Lts as lts
-use borrow.Author.Rules.{rules}
 use Rattle.branchfree.proofs.updates.set_bit.Goals as goal
 
 pub overflow_cast-one : goal.overflow_cast-one

@@ -1,8 +1,6 @@
 -- `among` joins the sets of the numbers, the lowest first: those that are left lead from what is joined to the whole.
 use native.Mathlib.Omega.{arith}
 use mathlib.Core.Path.{refl}
-use Rattle.bits.specs.Bits.{fold_set}
-use Rattle.recorded.specs.Visits.{Leads}
 use Rattle.recorded.proofs.VisitLaws.{visited_lt, visit_less, visit_next, visit_end}
 use Rattle.gathering.specs.Users.{join_set}
 use Rattle.gathering.proofs.RoleLaws.{among_start, among_is}

@@ -1,8 +1,7 @@
 -- `holder_rows` stores the rows one after another: before turn k those of the roles below k.
-use Prim.Native.Nat.{◌-◌, ◌≤◌}
+use Prim.Native.Nat.{◌-◌}
 use native.Mathlib.Omega.{arith}
 use mathlib.Core.Path.{◌≡◌}
-use Rattle.gathering.specs.Users.{HolderRows}
 use Rattle.gathering.proofs.RoleLaws.{rows_none, rows_more}
 use borrow.Author.Rules.{rules}
 use Rattle.gathering.proofs.roles.holder_rows.Goals as goal

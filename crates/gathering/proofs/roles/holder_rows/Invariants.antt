@@ -1,9 +1,6 @@
 -- `holder_rows` stores the rows one after another: before turn k those of the roles below k.
 use Prim.Native.Nat.{◌-◌, ◌≤◌}
-use native.Mathlib.Omega.{arith}
-use mathlib.Core.Path.{◌≡◌}
 use Rattle.gathering.specs.Users.{HolderRows}
-use Rattle.gathering.proofs.RoleLaws.{rows_none, rows_more}
 use Rattle.gathering.proofs.roles.holder_rows.Given as goal
 
 abbrev pub invariant-loop-k : goal.invariant-loop-k

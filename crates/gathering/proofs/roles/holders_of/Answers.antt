@@ -1,6 +1,5 @@
 -- `holders_of` answers the persons outside the users of the rights beyond those given.
 use Rattle.gathering.proofs.RoleLaws.{holds_is}
-use borrow.Author.Rules.{rules}
 use Rattle.gathering.proofs.roles.holders_of.Goals as goal
 
 pub returns : goal.returns

@@ -1,9 +1,6 @@
 -- `role_rows` stores the rights one after another: before turn k those of the roles below k.
 use Prim.Native.Nat.{◌-◌, ◌≤◌}
-use native.Mathlib.Omega.{arith}
-use mathlib.Core.Path.{◌≡◌, refl}
 use Rattle.gathering.specs.Users.{RoleRows}
-use Rattle.gathering.proofs.RoleLaws.{rows_none, rows_more}
 use Rattle.gathering.proofs.roles.role_rows.Given as goal
 
 abbrev pub invariant-loop-k : goal.invariant-loop-k

@@ -1,11 +1,7 @@
 -- `some_in` puts the numbers in one after another: before turn x those below x whose sets are not empty.
-use Prim.Native.Nat.{◌-◌, ◌%◌, ◌≤◌}
+use Prim.Native.Nat.{◌-◌, ◌%◌}
 use native.Mathlib.Omega.{arith}
 use mathlib.Core.Path.{◌≡◌, sym, ◌∙◌}
-use mathlib.Core.Bool.{not}
-use lib.Dec.{eqb}
-use lib.ListN.{get_or}
-use Rattle.bits.specs.Bits.{mask_below}
 use Rattle.bits.proofs.Masks.{mask_start, mask_step}
 use borrow.Author.Rules.{rules}
 use Rattle.gathering.proofs.roles.some_in.Goals as goal

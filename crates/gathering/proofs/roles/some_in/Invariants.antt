@@ -1,12 +1,10 @@
 -- `some_in` puts the numbers in one after another: before turn x those below x whose sets are not empty.
-use Prim.Native.Nat.{◌-◌, ◌%◌, ◌≤◌}
-use native.Mathlib.Omega.{arith}
-use mathlib.Core.Path.{◌≡◌, sym, ◌∙◌}
+use Prim.Native.Nat.{◌-◌, ◌≤◌}
+use mathlib.Core.Path.{◌≡◌}
 use mathlib.Core.Bool.{not}
 use lib.Dec.{eqb}
 use lib.ListN.{get_or}
 use Rattle.bits.specs.Bits.{mask_below}
-use Rattle.bits.proofs.Masks.{mask_start, mask_step}
 use Rattle.gathering.proofs.roles.some_in.Given as goal
 
 abbrev pub invariant-loop-x : goal.invariant-loop-x

@@ -1,9 +1,8 @@
 -- `add_words` joins the words one after another: before turn i those of the first i folders are in the sets of their groups.
-use Prim.Native.Nat.{◌+◌, ◌-◌, ◌≤◌, ◌<◌}
+use Prim.Native.Nat.{◌+◌, ◌-◌, ◌<◌}
 use native.Mathlib.Omega.{arith}
 use mathlib.Core.Path.{◌≡◌, refl, ◌∙◌}
 use lib.ListN.{get_or}
-use Rattle.grouping.specs.Adding.{Added, grouped}
 use Rattle.grouping.proofs.AddingLaws.{grouped_none, grouped_more}
 use borrow.Author.Rules.{rules}
 use Rattle.grouping.proofs.groups.add_words.Goals as goal

@@ -1,10 +1,6 @@
 -- `add_words` joins the words one after another: before turn i those of the first i folders are in the sets of their groups.
-use Prim.Native.Nat.{◌+◌, ◌-◌, ◌≤◌, ◌<◌}
-use native.Mathlib.Omega.{arith}
-use mathlib.Core.Path.{◌≡◌, refl, ◌∙◌}
-use lib.ListN.{get_or}
+use Prim.Native.Nat.{◌-◌, ◌≤◌}
 use Rattle.grouping.specs.Adding.{Added, grouped}
-use Rattle.grouping.proofs.AddingLaws.{grouped_none, grouped_more}
 use Rattle.grouping.proofs.groups.add_words.Given as goal
 
 abbrev pub invariant-loop-i : goal.invariant-loop-i

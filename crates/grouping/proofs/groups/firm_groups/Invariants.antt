@@ -1,11 +1,7 @@
 -- `firm_groups` stores the groups one after another: before turn o those of the folders below o.
 use Prim.Native.Nat.{◌-◌, ◌≤◌}
-use native.Mathlib.Omega.{arith}
-use mathlib.Core.Path.{◌≡◌, refl, ap₂, ◌∙◌}
 use Rattle.recorded.specs.Gathering.{FirstAre}
-use Rattle.recorded.proofs.GatheringLaws.{stored_none, stored_more}
-use Rattle.grouping.specs.Groups.{group_of, firm_group}
-use Rattle.grouping.proofs.GroupLaws.{firms_grouped}
+use Rattle.grouping.specs.Groups.{firm_group}
 use Rattle.grouping.proofs.groups.firm_groups.Given as goal
 
 abbrev pub invariant-loop-o : goal.invariant-loop-o

@@ -1,6 +1,5 @@
 -- `group` answers a group's number, by cases on whether it counts.
 use Rattle.grouping.specs.Groups.{group_of}
-use borrow.Author.Rules.{rules}
 use Rattle.grouping.proofs.groups.group.Goals as goal
 
 pub returns-then-counts : goal.returns-then-counts

@@ -1,8 +1,7 @@
 -- `kind_groups` stores the groups one after another: before turn o those of the folders below o.
-use Prim.Native.Nat.{ℕ, ◌-◌, ◌≤◌}
+use Prim.Native.Nat.{ℕ, ◌-◌}
 use native.Mathlib.Omega.{arith}
 use mathlib.Core.Path.{◌≡◌, refl, ap, ◌∙◌}
-use Rattle.recorded.specs.Gathering.{FirstAre}
 use Rattle.recorded.proofs.GatheringLaws.{stored_none, stored_more}
 use Rattle.policy.specs.Tables.{folder_at}
 use Rattle.grouping.specs.Groups.{group_of, kind_group}

@@ -1,12 +1,7 @@
 -- `kind_groups` stores the groups one after another: before turn o those of the folders below o.
-use Prim.Native.Nat.{ℕ, ◌-◌, ◌≤◌}
-use native.Mathlib.Omega.{arith}
-use mathlib.Core.Path.{◌≡◌, refl, ap, ◌∙◌}
+use Prim.Native.Nat.{◌-◌, ◌≤◌}
 use Rattle.recorded.specs.Gathering.{FirstAre}
-use Rattle.recorded.proofs.GatheringLaws.{stored_none, stored_more}
-use Rattle.policy.specs.Tables.{folder_at}
-use Rattle.grouping.specs.Groups.{group_of, kind_group}
-use Rattle.grouping.proofs.GroupLaws.{kinds_grouped}
+use Rattle.grouping.specs.Groups.{kind_group}
 use Rattle.grouping.proofs.groups.kind_groups.Given as goal
 
 abbrev pub invariant-loop-o : goal.invariant-loop-o

@@ -1,6 +1,5 @@
 -- `merge` takes each column's bit from one of two rows, since the mask has the columns whose digit is 0.
 use Rattle.grouping.proofs.TurningLaws.{merge_is}
-use borrow.Author.Rules.{rules}
 use Rattle.grouping.proofs.turning.merge.Goals as goal
 
 pub returns : goal.returns

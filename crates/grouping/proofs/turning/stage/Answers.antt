@@ -1,10 +1,8 @@
 -- `stage` stores the rows one after another: before turn i the first 2 * i rows are those of the stage.
-use Prim.Native.Nat.{◌+◌, ◌-◌, ◌*◌, ◌≤◌}
+use Prim.Native.Nat.{◌+◌, ◌-◌, ◌*◌}
 use native.Mathlib.Omega.{arith}
 use mathlib.Core.Path.{◌≡◌, refl}
-use Rattle.recorded.specs.Gathering.{FirstAre}
 use Rattle.recorded.proofs.GatheringLaws.{stored_none, stored_more}
-use Rattle.grouping.specs.Turning.{stage_row}
 use Rattle.grouping.proofs.TurningLaws.{even_row, odd_row}
 use borrow.Author.Rules.{rules}
 use Rattle.grouping.proofs.turning.stage.Goals as goal

@@ -1,11 +1,7 @@
 -- `stage` stores the rows one after another: before turn i the first 2 * i rows are those of the stage.
-use Prim.Native.Nat.{◌+◌, ◌-◌, ◌*◌, ◌≤◌}
-use native.Mathlib.Omega.{arith}
-use mathlib.Core.Path.{◌≡◌, refl}
+use Prim.Native.Nat.{◌-◌, ◌*◌, ◌≤◌}
 use Rattle.recorded.specs.Gathering.{FirstAre}
-use Rattle.recorded.proofs.GatheringLaws.{stored_none, stored_more}
 use Rattle.grouping.specs.Turning.{stage_row}
-use Rattle.grouping.proofs.TurningLaws.{even_row, odd_row}
 use Rattle.grouping.proofs.turning.stage.Given as goal
 
 abbrev pub invariant-loop-i : goal.invariant-loop-i

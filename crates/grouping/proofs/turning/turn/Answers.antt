@@ -1,7 +1,6 @@
 -- `turn` gives the rows turned round: its six stages are those whose bits all come from where they should.
 use native.Mathlib.Omega.{arith}
 use Rattle.grouping.proofs.TurningLaws.{start, more, turned_all, evens_32, evens_16, evens_8, evens_4, evens_2, evens_1}
-use borrow.Author.Rules.{rules}
 use Rattle.grouping.proofs.turning.turn.Goals as goal
 
 pub stage-a-requires : goal.stage-a-requires

@@ -1,8 +1,7 @@
 -- `access_words` stores the joined words one after another: before turn s those of the persons below s.
-use Prim.Native.Nat.{◌+◌, ◌-◌, ◌*◌, ◌≤◌}
+use Prim.Native.Nat.{◌-◌}
 use native.Mathlib.Omega.{arith}
 use mathlib.Core.Path.{◌≡◌, refl, ap₂}
-use Rattle.recorded.specs.Gathering.{FirstAre}
 use Rattle.recorded.proofs.GatheringLaws.{stored_none, stored_more}
 use lib.Bits.{bit_or}
 use Rattle.history.specs.Words.{word_at}

@@ -2,7 +2,6 @@
 use mathlib.Core.Path.{◌∙◌}
 use native.Mathlib.Omega.{arith}
 use Rattle.grouping.proofs.FolderWords.{recorded_in_lem}
-use borrow.Author.Rules.{rules}
 use Rattle.grouping.proofs.words.add_recorded.Goals as goal
 
 pub add_words-requires-2 : goal.add_words-requires-2

@@ -1,8 +1,7 @@
 -- `add_steps` takes the folders one after another: before turn o the steps on those below o are in their sets.
-use Prim.Native.Nat.{◌-◌, ◌≤◌}
+use Prim.Native.Nat.{◌-◌}
 use native.Mathlib.Omega.{arith}
 use mathlib.Core.Path.{◌≡◌, ◌∙◌}
-use Rattle.grouping.specs.Adding.{Added, applied_in}
 use Rattle.grouping.proofs.AddingLaws.{folders_none, folders_more, folders_same}
 use borrow.Author.Rules.{rules}
 use Rattle.grouping.proofs.words.add_steps.Goals as goal
@@ -22,7 +21,7 @@ loop-o-preserved c =
     let looped = c.loop-o in (
       search rules,
       elim c.if-groups-o-lt64.branch [
-        then-groups-o-lt64 w ↦
+        | then-groups-o-lt64 w ↦
             folders_more _ _ looped.o looped.invariant.1 w.if-groups-o-lt64.true (rw w.sets-is w.add_steps_on.ensures)
         | else-groups-o-lt64 w ↦ folders_same _ _ looped.o (rw w.sets-is looped.invariant.1) w.if-groups-o-lt64.false
       ],

@@ -1,10 +1,6 @@
 -- `add_steps` takes the folders one after another: before turn o the steps on those below o are in their sets.
 use Prim.Native.Nat.{◌-◌, ◌≤◌}
-use native.Mathlib.Omega.{arith}
-use mathlib.Core.Path.{◌≡◌, ◌∙◌}
-use mathlib.Core.Logic.{⊎_elim}
 use Rattle.grouping.specs.Adding.{Added, applied_in}
-use Rattle.grouping.proofs.AddingLaws.{folders_none, folders_more, folders_same}
 use Rattle.grouping.proofs.words.add_steps.Given as goal
 
 abbrev pub invariant-loop-o : goal.invariant-loop-o

@@ -1,8 +1,7 @@
 -- `add_steps_on` joins the words of the steps one after another: before turn p those of the steps below p are in their sets.
-use Prim.Native.Nat.{◌-◌, ◌≤◌}
+use Prim.Native.Nat.{◌-◌}
 use native.Mathlib.Omega.{arith}
 use mathlib.Core.Path.{◌≡◌, refl}
-use Rattle.grouping.specs.Adding.{Added, applied_to}
 use Rattle.grouping.proofs.AddingLaws.{applied_none, applied_more}
 use borrow.Author.Rules.{rules}
 use Rattle.grouping.proofs.words.add_steps_on.Goals as goal

@@ -1,9 +1,6 @@
 -- `add_steps_on` joins the words of the steps one after another: before turn p those of the steps below p are in their sets.
 use Prim.Native.Nat.{◌-◌, ◌≤◌}
-use native.Mathlib.Omega.{arith}
-use mathlib.Core.Path.{◌≡◌, refl}
 use Rattle.grouping.specs.Adding.{Added, applied_to}
-use Rattle.grouping.proofs.AddingLaws.{applied_none, applied_more}
 use Rattle.grouping.proofs.words.add_steps_on.Given as goal
 
 abbrev pub invariant-loop-p : goal.invariant-loop-p

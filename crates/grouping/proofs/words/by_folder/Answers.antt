@@ -1,6 +1,5 @@
 -- `by_folder` turns the words of the persons round.
 use Rattle.grouping.proofs.FolderWords.{folder_words}
-use borrow.Author.Rules.{rules}
 use Rattle.grouping.proofs.words.by_folder.Goals as goal
 
 pub returns : goal.returns

@@ -1,9 +1,6 @@
 -- `person_words` stores the words one after another: before turn s those of the persons below s.
 use Prim.Native.Nat.{◌+◌, ◌-◌, ◌*◌, ◌≤◌}
-use native.Mathlib.Omega.{arith}
-use mathlib.Core.Path.{◌≡◌, refl}
 use Rattle.recorded.specs.Gathering.{FirstAre}
-use Rattle.recorded.proofs.GatheringLaws.{stored_none, stored_more}
 use Rattle.history.specs.Words.{word_at}
 use Rattle.grouping.proofs.words.person_words.Given as goal
 

@@ -1,15 +1,8 @@
 -- `starters` puts the persons in one after another: before turn s those below s who started one of the set.
-use Prim.Native.Nat.{ℕ, ◌-◌, ◌≤◌}
-use native.Mathlib.Omega.{arith}
-use mathlib.Core.Path.{◌≡◌, ap, sym, ◌∙◌}
-use Prim.Native.Nat.{◌%◌}
-use mathlib.Core.Bool.{not}
-use lib.Bits.{bit_and}
-use lib.Dec.{eqb}
+use Prim.Native.Nat.{◌-◌, ◌≤◌}
+use mathlib.Core.Path.{◌≡◌}
 use Rattle.bits.specs.Bits.{mask_below}
-use Rattle.bits.proofs.Masks.{mask_start, mask_step}
 use Rattle.recorded.specs.Recorded.{started}
-use Rattle.recorded.proofs.Recorded.{starts_word}
 use Rattle.grouping.proofs.words.starters.Given as goal
 
 abbrev pub invariant-loop-s : goal.invariant-loop-s

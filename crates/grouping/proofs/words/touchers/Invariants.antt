@@ -1,12 +1,8 @@
 -- `touchers` joins to each word of accesses that of the steps: before turn i the words of the first i folders are stored.
-use Prim.Native.Nat.{◌+◌, ◌-◌, ◌≤◌, ◌<◌}
-use native.Mathlib.Omega.{arith}
-use mathlib.Core.Path.{◌≡◌, refl}
+use Prim.Native.Nat.{◌+◌, ◌-◌, ◌≤◌}
 use Rattle.recorded.specs.Gathering.{FirstAre}
-use Rattle.recorded.proofs.GatheringLaws.{stored_none, stored_more}
 use Rattle.bits.specs.Bits.{mask_below}
 use Rattle.recorded.specs.Recorded.{touched_at}
-use Rattle.grouping.proofs.FolderWords.{touched_word}
 use Rattle.grouping.proofs.words.touchers.Given as goal
 
 abbrev pub invariant-loop-i : goal.invariant-loop-i

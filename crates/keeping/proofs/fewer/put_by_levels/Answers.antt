@@ -13,8 +13,6 @@ use Rattle.branchfree.proofs.FailingLaws.{negated, not_in_force}
 use Rattle.branchfree.proofs.UpdateLaws.{masked_all, either_way}
 use Rattle.keeping.proofs.FewerLaws.{not_among, without_roles}
 use Rattle.keeping.proofs.Puts.{placed_at, found_at}
-use Rattle.keeping.proofs.fewer.put_by_levels.Lts as lts
-use borrow.Author.Rules.{rules}
 use Rattle.keeping.proofs.fewer.put_by_levels.Goals as goal
 
 pub offset_bounds-sets-target : goal.offset_bounds-sets-target

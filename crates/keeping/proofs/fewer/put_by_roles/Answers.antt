@@ -13,8 +13,6 @@ use Rattle.branchfree.proofs.FailingLaws.{negated}
 use Rattle.branchfree.proofs.UpdateLaws.{either_way, masked_all}
 use Rattle.keeping.proofs.FewerLaws.{not_among, roles_alone}
 use Rattle.keeping.proofs.Puts.{placed_at, right_in, found_at}
-use Rattle.keeping.proofs.fewer.put_by_roles.Lts as lts
-use borrow.Author.Rules.{rules}
 use Rattle.keeping.proofs.fewer.put_by_roles.Goals as goal
 
 pub right-requires : goal.right-requires

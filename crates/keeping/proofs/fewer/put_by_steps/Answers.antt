@@ -14,8 +14,6 @@ use Rattle.branchfree.proofs.FailingLaws.{negated, not_in_force}
 use Rattle.branchfree.proofs.UpdateLaws.{masked_one, masked_all}
 use Rattle.keeping.proofs.FewerLaws.{not_among, without_roles}
 use Rattle.keeping.proofs.Puts.{placed_at, found_at}
-use Rattle.keeping.proofs.fewer.put_by_steps.Lts as lts
-use borrow.Author.Rules.{rules}
 use Rattle.keeping.proofs.fewer.put_by_steps.Goals as goal
 
 pub offset_bounds-sets-target : goal.offset_bounds-sets-target

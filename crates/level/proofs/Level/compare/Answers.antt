@@ -22,7 +22,7 @@ pub returns-then-suffices-2 : goal.returns-then-suffices-2
 unfolding compare_of
 returns-then-suffices-2 c =
     elim c.else-suffices.branch [
-      else-suffices-via-then-suffices+else-own-others w ↦
+      | else-suffices-via-then-suffices+else-own-others w ↦
           rw (
             ← c.rank.ensures,
             ← c.rank-2.ensures,

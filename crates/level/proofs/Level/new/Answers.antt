@@ -7,7 +7,6 @@ use lib.Bits.{bit_or, and_mask, or_shifted}
 use lib.Dec.{lit≤}
 use lib.Pow.{shl_exact}
 use Rattle.level.specs.Levels.{level_of}
-use borrow.Author.Rules.{rules}
 use Rattle.level.proofs.Level.new.Goals as goal
 
 pub returns : goal.returns

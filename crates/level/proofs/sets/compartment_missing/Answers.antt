@@ -2,7 +2,6 @@
 use mathlib.Core.Path.{ap}
 use mathlib.Core.Bool.{not}
 use Rattle.level.proofs.SetLaws.{compartments_part}
-use borrow.Author.Rules.{rules}
 use Rattle.level.proofs.sets.compartment_missing.Goals as goal
 
 pub returns : goal.returns

@@ -3,7 +3,6 @@ use Prim.Native.Nat.{◌/◌}
 use native.Mathlib.Omega.{arith}
 use lib.Bits.{mask_lt}
 use Rattle.level.proofs.SetLaws.{read_back}
-use borrow.Author.Rules.{rules}
 use Rattle.level.proofs.sets.level_of.Goals as goal
 
 pub overflow_add-set : goal.overflow_add-set

@@ -1,6 +1,5 @@
 -- `sets::marked` tells that one of two sets is marked: "or" of both has the bit of the mark where one of them has it.
 use Rattle.level.proofs.SetLaws.{either_marked}
-use borrow.Author.Rules.{rules}
 use Rattle.level.proofs.sets.marked.Goals as goal
 
 pub returns : goal.returns

@@ -2,7 +2,6 @@
 use mathlib.Core.Path.{ap}
 use mathlib.Core.Bool.{not}
 use Rattle.level.proofs.SetLaws.{rank_part}
-use borrow.Author.Rules.{rules}
 use Rattle.level.proofs.sets.rank_too_low.Goals as goal
 
 pub returns : goal.returns

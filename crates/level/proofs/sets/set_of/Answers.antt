@@ -4,7 +4,6 @@ use native.Mathlib.Omega.{arith}
 use mathlib.Core.Path.{◌∙◌}
 use lib.Pow.{pow_pos}
 use Rattle.level.proofs.SetLaws.{rank_lt, one_shifted, made}
-use borrow.Author.Rules.{rules}
 use Rattle.level.proofs.sets.set_of.Goals as goal
 
 pub overflow_shl-result : goal.overflow_shl-result

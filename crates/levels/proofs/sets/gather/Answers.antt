@@ -1,7 +1,6 @@
 -- `sets::gather` puts together the sets of the persons and those of the folders; what it reads in the buffer are bytes.
 use mathlib.Core.Path.{refl}
 use Rattle.levels.proofs.SetLaws.{gathered}
-use borrow.Author.Rules.{rules}
 use Rattle.levels.proofs.sets.gather.Goals as goal
 
 pub returns : goal.returns

@@ -1,11 +1,8 @@
 -- `sets::put_folders` stores the set of each folder: before each turn those of the folders below the number reached are at their places.
-use Prim.Native.Nat.{◌-◌, ◌≤◌, ◌<◌}
+use Prim.Native.Nat.{◌-◌}
 use native.Mathlib.Omega.{arith}
 use mathlib.Core.Path.{◌≡◌, refl}
-use Rattle.bits.specs.Filling.{Filled}
 use Rattle.bits.proofs.FillingLaws.{fill_none, fill_more}
-use Rattle.policy.specs.Tables.{folder_at}
-use Rattle.levels.specs.Sets.{folder_set}
 use borrow.Author.Rules.{rules}
 use Rattle.levels.proofs.sets.put_folders.Goals as goal
 

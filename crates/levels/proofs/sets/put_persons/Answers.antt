@@ -1,10 +1,8 @@
 -- `sets::put_persons` stores the set of each person: before each turn those of the persons below the number reached are at their places.
-use Prim.Native.Nat.{◌-◌, ◌≤◌}
+use Prim.Native.Nat.{◌-◌}
 use native.Mathlib.Omega.{arith}
 use mathlib.Core.Path.{◌≡◌}
-use Rattle.bits.specs.Filling.{Filled}
 use Rattle.bits.proofs.FillingLaws.{fill_none, fill_more}
-use Rattle.levels.specs.Sets.{person_set}
 use Rattle.levels.proofs.SetLaws.{person_set_lem}
 use borrow.Author.Rules.{rules}
 use Rattle.levels.proofs.sets.put_persons.Goals as goal

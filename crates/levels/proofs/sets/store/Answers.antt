@@ -1,13 +1,9 @@
 -- `sets::store` gives the buffer whose levels the sets are: before each turn the bytes of the persons below the number reached are.
-use Prim.Native.Nat.{ℕ, ◌-◌, ◌≤◌}
+use Prim.Native.Nat.{◌-◌}
 use native.Mathlib.Omega.{arith}
 use mathlib.Core.Path.{◌≡◌, ◌∙◌}
-use mathlib.Core.List.{List}
-use lib.ListN.{length}
-use Rattle.policy.specs.Levels.{levels_bytes}
 use Rattle.policy.proofs.LevelBytes.{size_with}
-use Rattle.levels.specs.Sets.{LevelBuffer, HoldsLevels}
-use Rattle.levels.proofs.SetLaws.{SameBelow, store_more, stored_whole}
+use Rattle.levels.proofs.SetLaws.{store_more, stored_whole}
 use borrow.Author.Rules.{rules}
 use Rattle.levels.proofs.sets.store.Goals as goal
 

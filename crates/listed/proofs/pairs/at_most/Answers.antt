@@ -1,7 +1,6 @@
 -- `at_most` holds for the one outcome of comparing that is "at most": the arm that is taken tells the outcome.
 use mathlib.Core.Path.{sym, ap, ◌∙◌}
 use Rattle.level.specs.Levels.{is_at_most, at_most}
-use borrow.Author.Rules.{rules}
 use Rattle.listed.proofs.pairs.at_most.Goals as goal
 
 pub returns-in-AtMost : goal.returns-in-AtMost

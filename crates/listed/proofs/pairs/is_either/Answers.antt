@@ -1,7 +1,5 @@
 -- `is_either` is "or" of two tests: the second is asked where the first fails.
 use borrow.Author.Tests.{eq-eqb, ne_eqb}
-use Rattle.listed.proofs.pairs.is_either.Lts as lts
-use borrow.Author.Rules.{rules}
 use Rattle.listed.proofs.pairs.is_either.Goals as goal
 
 pub returns-then-action-one : goal.returns-then-action-one

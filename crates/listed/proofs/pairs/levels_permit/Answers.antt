@@ -3,8 +3,6 @@ use mathlib.Core.Path.{◌∙◌}
 use Rattle.level.specs.Levels.{at_most}
 use Rattle.listed.specs.Pairs.{levels_pass}
 use Rattle.listed.proofs.Implied.{passes_unasked, passes_asked}
-use Rattle.listed.proofs.pairs.levels_permit.Lts as lts
-use borrow.Author.Rules.{rules}
 use Rattle.listed.proofs.pairs.levels_permit.Goals as goal
 
 pub returns-then-not-both : goal.returns-then-not-both

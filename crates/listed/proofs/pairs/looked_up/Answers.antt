@@ -1,8 +1,6 @@
 -- `looked_up` is what is looked up about a job, field by field.
 use Rattle.precedence.specs.Precedence.{lowers_level, needs_level, is_step}
 use Rattle.listed.specs.Pairs.{side_by}
-use Rattle.listed.proofs.pairs.looked_up.Lts as lts
-use borrow.Author.Rules.{rules}
 use Rattle.listed.proofs.pairs.looked_up.Goals as goal
 
 pub returns : goal.returns

@@ -2,8 +2,6 @@
 use mathlib.Core.Path.{ap₂, ◌∙◌}
 use mathlib.Core.Bool.{◌&&◌}
 use Rattle.listed.specs.Pairs.{precedes}
-use Rattle.listed.proofs.pairs.may_precede.Lts as lts
-use borrow.Author.Rules.{rules}
 use Rattle.listed.proofs.pairs.may_precede.Goals as goal
 
 pub returns : goal.returns

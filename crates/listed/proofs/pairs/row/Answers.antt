@@ -1,5 +1,5 @@
 -- `row` puts each job that x may not come before into the set, one after another; there is none where no rule asks about x.
-use Prim.Native.Nat.{ℕ, ◌-◌, ◌≤◌}
+use Prim.Native.Nat.{ℕ, ◌-◌}
 use native.Mathlib.Nat.{mod-eq_of_lt}
 use native.Mathlib.Omega.{arith}
 use mathlib.Core.Path.{◌≡◌, sym, ap, ap₂, ◌∙◌}
@@ -8,8 +8,6 @@ use Rattle.bits.specs.Bits.{with_bit, mask_below}
 use Rattle.bits.proofs.Masks.{mask_start, mask_step, mask_none}
 use Rattle.listed.specs.Pairs.{precedes, side_at}
 use Rattle.listed.proofs.Implied.{unasked}
-use borrow.Author.Tests.{not-true}
-use Rattle.listed.proofs.pairs.row.Lts as lts
 use borrow.Author.Rules.{rules}
 use Rattle.listed.proofs.pairs.row.Goals as goal
 

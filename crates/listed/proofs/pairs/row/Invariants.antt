@@ -1,15 +1,9 @@
 -- `row` puts each job that x may not come before into the set, one after another; there is none where no rule asks about x.
-use Prim.Native.Nat.{ℕ, ◌-◌, ◌≤◌}
-use native.Mathlib.Nat.{mod-eq_of_lt}
-use native.Mathlib.Omega.{arith}
-use mathlib.Core.Path.{◌≡◌, sym, ap, ap₂, ◌∙◌}
-use mathlib.Core.Bool.{Bool, cond, not}
-use Rattle.bits.specs.Bits.{with_bit, mask_below}
-use Rattle.bits.proofs.Masks.{mask_start, mask_step, mask_none}
+use Prim.Native.Nat.{◌-◌, ◌≤◌}
+use mathlib.Core.Path.{◌≡◌}
+use mathlib.Core.Bool.{not}
+use Rattle.bits.specs.Bits.{mask_below}
 use Rattle.listed.specs.Pairs.{precedes, side_at}
-use Rattle.listed.proofs.Implied.{unasked}
-use borrow.Author.Tests.{not-true}
-use Rattle.listed.proofs.pairs.row.Lts as lts
 use Rattle.listed.proofs.pairs.row.Given as goal
 
 abbrev pub invariant-loop-j : goal.invariant-loop-j

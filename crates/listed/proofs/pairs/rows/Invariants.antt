@@ -1,13 +1,9 @@
 -- `rows` stores the sets one after another: before turn i those of the jobs below i.
 use Prim.Native.Nat.{◌-◌, ◌≤◌}
-use native.Mathlib.Omega.{arith}
-use mathlib.Core.Path.{◌≡◌, refl}
 use mathlib.Core.Bool.{not}
 use Rattle.bits.specs.Bits.{mask_below}
 use Rattle.recorded.specs.Gathering.{FirstAre}
-use Rattle.recorded.proofs.GatheringLaws.{stored_none, stored_more}
 use Rattle.listed.specs.Pairs.{precedes, side_at}
-use Rattle.listed.proofs.pairs.rows.Lts as lts
 use Rattle.listed.proofs.pairs.rows.Given as goal
 
 abbrev pub invariant-loop-i : goal.invariant-loop-i

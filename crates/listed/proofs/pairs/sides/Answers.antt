@@ -1,11 +1,10 @@
 -- `sides` stores what is looked up one job after another: before turn i the sides of the jobs below i.
-use Prim.Native.Nat.{◌-◌, ◌≤◌}
+use Prim.Native.Nat.{◌-◌}
 use native.Mathlib.Omega.{arith}
 use mathlib.Core.Path.{◌≡◌, refl}
-use Rattle.listed.specs.Pairs.{side_of, SidesOf}
+use Rattle.listed.specs.Pairs.{side_of}
 use Rattle.listed.proofs.JobBytes.{job_at_lem}
 use Rattle.listed.proofs.StoredSides.{sides_none, sides_more}
-use Rattle.listed.proofs.pairs.sides.Lts as lts
 use borrow.Author.Rules.{rules}
 use Rattle.listed.proofs.pairs.sides.Goals as goal
 

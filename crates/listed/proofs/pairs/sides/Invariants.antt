@@ -1,11 +1,6 @@
 -- `sides` stores what is looked up one job after another: before turn i the sides of the jobs below i.
 use Prim.Native.Nat.{◌-◌, ◌≤◌}
-use native.Mathlib.Omega.{arith}
-use mathlib.Core.Path.{◌≡◌, refl}
-use Rattle.listed.specs.Pairs.{side_of, SidesOf}
-use Rattle.listed.proofs.JobBytes.{job_at_lem}
-use Rattle.listed.proofs.StoredSides.{sides_none, sides_more}
-use Rattle.listed.proofs.pairs.sides.Lts as lts
+use Rattle.listed.specs.Pairs.{SidesOf}
 use Rattle.listed.proofs.pairs.sides.Given as goal
 
 abbrev pub invariant-loop-i : goal.invariant-loop-i

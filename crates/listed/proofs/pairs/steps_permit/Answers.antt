@@ -5,8 +5,6 @@ use mathlib.Core.Bool.{not}
 use Rattle.bits.specs.Bits.{bit}
 use Rattle.listed.specs.Pairs.{steps_pass}
 use Rattle.listed.proofs.Implied.{passes_unasked, passes_asked}
-use Rattle.listed.proofs.pairs.steps_permit.Lts as lts
-use borrow.Author.Rules.{rules}
 use Rattle.listed.proofs.pairs.steps_permit.Goals as goal
 
 pub returns-then-not-both : goal.returns-then-not-both

@@ -5,7 +5,6 @@ use mathlib.Core.Path.{refl, ap}
 use lib.ListN.{length-set}
 use Rattle.listed.proofs.JobBytes.{job_at_lem}
 use Rattle.listed.proofs.RecordLaws.{record_stored}
-use Rattle.listed.proofs.records.put_record.Lts as lts
 use borrow.Author.Rules.{rules}
 use Rattle.listed.proofs.records.put_record.Goals as goal
 

@@ -1,10 +1,8 @@
 -- `put_records` writes one record behind the other: before turn k those of the first k positions are written.
-use Prim.Native.Nat.{◌-◌, ◌≤◌}
+use Prim.Native.Nat.{◌-◌}
 use native.Mathlib.Omega.{arith}
 use mathlib.Core.Path.{◌≡◌}
-use lib.ListN.{length}
-use Rattle.listed.proofs.RecordLaws.{Reached, reached_none, reached_more, reached_all}
-use Rattle.listed.proofs.records.put_records.Lts as lts
+use Rattle.listed.proofs.RecordLaws.{reached_none, reached_more, reached_all}
 use borrow.Author.Rules.{rules}
 use Rattle.listed.proofs.records.put_records.Goals as goal
 

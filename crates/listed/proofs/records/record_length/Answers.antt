@@ -1,6 +1,5 @@
 -- `record_length` is one of two lengths, as the action tells.
 use borrow.Author.Tests.{eq-eqb, ne_eqb}
-use Rattle.listed.proofs.records.record_length.Lts as lts
 use borrow.Author.Rules.{rules}
 use Rattle.listed.proofs.records.record_length.Goals as goal
 

@@ -1,7 +1,5 @@
 -- `third` is one of two bytes, as the action tells.
 use borrow.Author.Tests.{eq-eqb, ne_eqb}
-use Rattle.listed.proofs.records.third.Lts as lts
-use borrow.Author.Rules.{rules}
 use Rattle.listed.proofs.records.third.Goals as goal
 
 pub returns-then-action-eq19 : goal.returns-then-action-eq19

@@ -4,7 +4,6 @@ use native.Mathlib.Omega.{arith}
 use mathlib.Core.Path.{◌≡◌}
 use borrow.Author.Tests.{not-true, not-false}
 use Rattle.past.specs.Turns.{rights_after}
-use borrow.Author.Rules.{rules}
 use Rattle.past.proofs.rights.rights_after.Goals as goal
 
 pub returns-then-not-folder : goal.returns-then-not-folder

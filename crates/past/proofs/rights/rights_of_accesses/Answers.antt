@@ -1,11 +1,9 @@
 -- `rights::rights_of_accesses` answers the rights of reads and writes, or those found once no role holds them and the new right: after each
 -- turn those of 64 folders more.
-use Prim.Native.Nat.{◌+◌, ◌*◌, ◌-◌, ◌%◌, ◌≤◌}
+use Prim.Native.Nat.{◌+◌, ◌*◌, ◌-◌}
 use native.Mathlib.Omega.{arith}
-use mathlib.Core.Path.{◌≡◌, ◌∙◌}
+use mathlib.Core.Path.{◌≡◌}
 use Rattle.policy.specs.Request.{set_of}
-use Rattle.past.specs.Found.{FoundOf}
-use Rattle.past.specs.Past.{rights_below}
 use Rattle.past.proofs.AccessRights.{rights_start}
 use Rattle.past.proofs.FoundLaws.{found_whole}
 use borrow.Author.Rules.{rules}

@@ -5,7 +5,6 @@ use native.Mathlib.Omega.{arith}
 use mathlib.Core.Path.{◌≡◌, refl, sym, subst, ◌∙◌}
 use lib.Bits.{bit_or}
 use lib.ListN.{get_or}
-use borrow.Author.Tests.{not-true, not-false}
 use Rattle.policy.specs.Request.{set_of}
 use Rattle.policy.proofs.Requests.{person_below_lem}
 use Rattle.past.specs.Found.{FoundOf}
@@ -16,7 +15,6 @@ use Rattle.past.proofs.AccessRights.{rights_half}
 use Rattle.past.proofs.FoundLaws.{found_held, found_further}
 use Rattle.recorded.proofs.Recorded.{word_reads, word_writes}
 use Rattle.recorded.proofs.VisitLaws.{visit_end}
-use borrow.Author.Rules.{rules}
 use Rattle.past.proofs.rights.rights_over.Goals as goal
 use Rattle.past.proofs.rights.rights_over.Goals.{After-word_at-wrote}
 

@@ -1,6 +1,5 @@
 -- `rights::some_role_holds` asks for a role that holds the rights and the new one.
 use mathlib.Core.Path.{◌∙◌}
-use borrow.Author.Rules.{rules}
 use Rattle.past.proofs.rights.some_role_holds.Goals as goal
 
 pub returns : goal.returns

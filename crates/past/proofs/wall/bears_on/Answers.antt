@@ -2,7 +2,6 @@
 -- the folder, wrote in it or stepped on it.
 use borrow.Author.Tests.{not-true, not-false, eq-eqb, ne_eqb}
 use Rattle.past.specs.Wall.{bears}
-use borrow.Author.Rules.{rules}
 use Rattle.past.proofs.wall.bears_on.Goals as goal
 
 pub returns-then-not-folder : goal.returns-then-not-folder

@@ -4,7 +4,6 @@ use Rattle.bits.proofs.Booleans.{or_left, or_right}
 use Rattle.bits.proofs.Masks.{mask_test}
 use Rattle.policy.specs.Request.{index}
 use Rattle.recorded.specs.Recorded.{read_at, written_at, stepped_at, touched_at}
-use borrow.Author.Rules.{rules}
 use Rattle.past.proofs.wall.is_touched.Goals as goal
 
 pub returns-then-bit_at : goal.returns-then-bit_at

@@ -1,14 +1,13 @@
 -- `wall::wall_permits` answers what the wall says of an access: a public folder passes; of the folders that bear on the access one of the
 -- own firm lets it pass, and before each turn none below the one reached is, and it is known whether one bears on the access at all.
-use Prim.Native.Nat.{◌-◌, ◌≤◌}
+use Prim.Native.Nat.{◌-◌}
 use native.Mathlib.Omega.{arith}
 use mathlib.Core.Path.{◌≡◌, sym, ◌∙◌}
-use mathlib.Core.Logic.{⊎_elim}
 use borrow.Author.Tests.{ne_eqb}
 use Rattle.policy.specs.Tables.{class_of}
 use Rattle.policy.proofs.GivenEntries.{folder_firm}
 use Rattle.policy.proofs.Requests.{person_below_lem, folder_below}
-use Rattle.past.specs.Wall.{bears_at, Searched}
+use Rattle.past.specs.Wall.{bears_at}
 use Rattle.past.proofs.WallLaws.{any_firm_below, search_start, search_past, search_rival, wall_public, wall_own, wall_searched}
 use borrow.Author.Rules.{rules}
 use Rattle.past.proofs.wall.wall_permits.Goals as goal
@@ -82,10 +81,10 @@ loop-i-preserved c =
     let bears = c.bears_on in (
       search rules,
       elim c.if-bears_on.branch [
-        then-bears_on+else-folder-asked w ↦
+        | then-bears_on+else-folder-asked w ↦
             rw w.rival-is
             (search_rival _ _ _ _ _ loop.i loop.invariant.1 (sym bears.ensures ∙ w.if-bears_on.true)
-                (ne_eqb _ _ w.if-folder-asked.false))
+            (ne_eqb _ _ w.if-folder-asked.false))
         | else-bears_on w ↦
             rw w.rival-is (search_past _ _ _ _ _ loop.i loop.invariant.1 (sym bears.ensures ∙ w.if-bears_on.false))
       ],

@@ -1,12 +1,8 @@
 -- `copy` stores one byte after another: before turn i the first i bytes are those of the other slice.
-use Prim.Native.Nat.{ℕ, ◌+◌, ◌-◌, ◌≤◌, ◌<◌}
-use native.Mathlib.Omega.{arith}
-use mathlib.Core.Path.{◌≡◌, refl, ap, ◌∙◌}
+use Prim.Native.Nat.{◌-◌, ◌≤◌}
+use mathlib.Core.Path.{◌≡◌}
 use lib.ListN.{length, get_or}
-use lib.Seq.{ext_get_or}
 use Rattle.bits.specs.Filling.{Filled}
-use Rattle.bits.proofs.FillingLaws.{fill_none, fill_more}
-use Rattle.planning.proofs.trial.copy.Lts as lts
 use Rattle.planning.proofs.trial.copy.Given as goal
 
 abbrev pub invariant-loop-i : goal.invariant-loop-i

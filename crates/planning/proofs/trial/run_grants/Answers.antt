@@ -1,7 +1,5 @@
 -- `run_grants` runs the requests on copies that are equal to what was lent, and tells whether the run refused none.
 use Rattle.planning.proofs.Trials.{run_grants}
-use Rattle.planning.proofs.trial.run_grants.Lts as lts
-use borrow.Author.Rules.{rules}
 use Rattle.planning.proofs.trial.run_grants.Goals as goal
 
 pub returns : goal.returns

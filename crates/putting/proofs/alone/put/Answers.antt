@@ -1,7 +1,6 @@
 -- `put` judges the request at the front of the bytes alone, and records it where it is granted.
 use Rattle.putting.proofs.Turns.{as_turned}
 use Rattle.putting.proofs.PutAlone.{granted_fits}
-use borrow.Author.Rules.{rules}
 use Rattle.putting.proofs.alone.put.Goals as goal
 
 pub record_if_granted-requires : goal.record_if_granted-requires

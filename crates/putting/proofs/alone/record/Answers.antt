@@ -11,8 +11,6 @@ use Rattle.putting.proofs.PutAlone.{
   step_recorded,
   none_recorded,
 }
-use Rattle.putting.proofs.alone.record.Lts as lts
-use borrow.Author.Rules.{rules}
 use Rattle.putting.proofs.alone.record.Goals as goal
 
 pub record_start-requires : goal.record_start-requires

@@ -2,7 +2,6 @@
 use borrow.Author.Tests.{ne_eqb}
 use Rattle.policy.specs.Calls.{recorded_if}
 use Rattle.putting.proofs.PutAlone.{granted_leaves}
-use borrow.Author.Rules.{rules}
 use Rattle.putting.proofs.alone.record_if_granted.Goals as goal
 
 pub record-requires : goal.record-requires

@@ -1,18 +1,12 @@
 -- `run_from` ends a run that has begun: whatever run it is, what is written and what the rest of the requests gives on the history and the
 -- levels so far are at each turn what the whole run gives.
-use Prim.Native.Nat.{ℕ, ◌-◌, ◌<◌}
-use native.Mathlib.Omega.{arith}
-use mathlib.Core.Path.{◌≡◌, sym, ◌∙◌, subst}
+use Prim.Native.Nat.{ℕ, ◌-◌}
+use mathlib.Core.Path.{◌≡◌}
 use mathlib.Core.List.{List}
-use lib.ListN.{length, drop, length-set}
-use borrow.Author.Rules.{part_to_end}
+use lib.ListN.{length}
 use Rattle.policy.specs.Calls.{State, state}
 use Rattle.questions.specs.Judging.{Ready}
 use Rattle.putting.specs.Running.{Done, Room}
-use Rattle.putting.proofs.Records.{next_at_within, next_at_further, due_at}
-use Rattle.putting.proofs.Turns.{as_turned, ready_put, granted_one, done_more, done_all, room_more}
-use Rattle.putting.proofs.PutAlone.{granted_fits}
-use Rattle.putting.proofs.alone.run_from.Lts as lts
 use Rattle.putting.proofs.alone.run_from.Given as goal
 
 abbrev pub invariant-loop-at : goal.invariant-loop-at

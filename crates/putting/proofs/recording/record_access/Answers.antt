@@ -1,10 +1,7 @@
 -- `record_access` sets the bit of the access, and lowers the level of one who reads.
 use mathlib.Core.Path.{◌∙◌}
-use borrow.Author.Tests.{not-true, not-false}
 use Rattle.policy.specs.Request.{recorded}
 use Rattle.putting.specs.Running.{lowered_to}
-use Rattle.putting.proofs.recording.record_access.Lts as lts
-use borrow.Author.Rules.{rules}
 use Rattle.putting.proofs.recording.record_access.Goals as goal
 
 pub returns-then-not-write : goal.returns-then-not-write

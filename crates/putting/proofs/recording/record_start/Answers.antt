@@ -1,8 +1,6 @@
 -- `record_start` sets the bit of the start.
 use mathlib.Core.Path.{◌∙◌}
 use Rattle.policy.specs.Request.{recorded}
-use Rattle.putting.proofs.recording.record_start.Lts as lts
-use borrow.Author.Rules.{rules}
 use Rattle.putting.proofs.recording.record_start.Goals as goal
 
 pub returns : goal.returns

@@ -2,8 +2,6 @@
 use mathlib.Core.Path.{◌∙◌}
 use Rattle.policy.specs.Request.{recorded}
 use Rattle.putting.specs.Running.{lowered_to}
-use Rattle.putting.proofs.recording.record_step.Lts as lts
-use borrow.Author.Rules.{rules}
 use Rattle.putting.proofs.recording.record_step.Goals as goal
 
 pub returns : goal.returns

@@ -1,7 +1,5 @@
 -- `ask` is the record of its definition.
 use Rattle.questions.specs.Asking.{asked_of}
-use Rattle.questions.proofs.asking.ask.Lts as lts
-use borrow.Author.Rules.{rules}
 use Rattle.questions.proofs.asking.ask.Goals as goal
 
 pub returns : goal.returns

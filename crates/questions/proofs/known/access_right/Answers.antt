@@ -1,7 +1,5 @@
 -- `access_right` is the definition's right: the kind, and 16 more for a write.
 use Rattle.questions.specs.Judging.{access_right}
-use Rattle.questions.proofs.known.access_right.Lts as lts
-use borrow.Author.Rules.{rules}
 use Rattle.questions.proofs.known.access_right.Goals as goal
 
 pub returns-then-write : goal.returns-then-write

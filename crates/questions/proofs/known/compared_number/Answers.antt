@@ -1,8 +1,6 @@
 -- `compared_number` gives each outcome of comparing its number: the arm that is taken tells the outcome.
 use mathlib.Core.Path.{sym, ap, ◌∙◌}
 use Rattle.policy.specs.Calls.{outcome_number}
-use Rattle.questions.proofs.known.compared_number.Lts as lts
-use borrow.Author.Rules.{rules}
 use Rattle.questions.proofs.known.compared_number.Goals as goal
 
 pub returns-in-AtMost : goal.returns-in-AtMost

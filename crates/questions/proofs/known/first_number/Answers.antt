@@ -1,9 +1,6 @@
 -- `first_number` is 14 where the wall refuses, and else the number of low-water.
 use mathlib.Core.Path.{sym, ◌∙◌}
-use borrow.Author.Tests.{not-true, not-false}
 use Rattle.questions.proofs.JudgingLaws.{first_number}
-use Rattle.questions.proofs.known.first_number.Lts as lts
-use borrow.Author.Rules.{rules}
 use Rattle.questions.proofs.known.first_number.Goals as goal
 
 pub returns-then-not-wall_passes : goal.returns-then-not-wall_passes

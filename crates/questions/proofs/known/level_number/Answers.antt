@@ -1,12 +1,9 @@
 -- `level_number` is 0 where low-water does not ask or is not in force, and else the number of the comparison.
 use mathlib.Core.Path.{sym, ◌∙◌}
-use borrow.Author.Tests.{not-true, not-false}
 use Rattle.bits.specs.Bits.{bit}
 use Rattle.policy.specs.Tables.{low_water_rule}
 use Rattle.questions.specs.Judging.{outcome_if}
 use Rattle.questions.proofs.JudgingLaws.{not_asked}
-use Rattle.questions.proofs.known.level_number.Lts as lts
-use borrow.Author.Rules.{rules}
 use Rattle.questions.proofs.known.level_number.Goals as goal
 
 pub returns-then-not-asks : goal.returns-then-not-asks

@@ -1,8 +1,5 @@
 -- `step_number` is 0 where the pipeline is not in force or permits the step, and else 17.
 use mathlib.Core.Path.{sym, ◌∙◌}
-use borrow.Author.Tests.{not-true, not-false}
-use Rattle.questions.proofs.known.step_number.Lts as lts
-use borrow.Author.Rules.{rules}
 use Rattle.questions.proofs.known.step_number.Goals as goal
 
 pub returns-then-not-bit8 : goal.returns-then-not-bit8

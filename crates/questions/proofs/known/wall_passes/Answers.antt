@@ -1,7 +1,5 @@
 -- `wall_passes` is true where the wall is not in force, and else what the wall says.
 use mathlib.Core.Path.{sym, ◌∙◌}
-use Rattle.questions.proofs.known.wall_passes.Lts as lts
-use borrow.Author.Rules.{rules}
 use Rattle.questions.proofs.known.wall_passes.Goals as goal
 
 pub returns-then-bit8 : goal.returns-then-bit8

@@ -1,7 +1,6 @@
 -- `access` is the record of its definition.
 use mathlib.Core.Path.{refl}
 use Rattle.questions.specs.Posing.{access_asks}
-use borrow.Author.Rules.{rules}
 use Rattle.questions.proofs.question.access.Goals as goal
 
 pub returns : goal.returns

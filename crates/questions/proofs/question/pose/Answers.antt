@@ -19,7 +19,6 @@ use Rattle.questions.proofs.JudgingLaws.{
 }
 use Rattle.questions.proofs.Deciding.{access_posed, step_posed, start_posed}
 use Rattle.questions.proofs.Posings.{at_once, asking}
-use borrow.Author.Rules.{rules}
 use Rattle.questions.proofs.question.pose.Goals as goal
 
 pub returns-then-not-asked : goal.returns-then-not-asked

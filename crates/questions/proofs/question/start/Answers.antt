@@ -1,7 +1,6 @@
 -- `start` is the record of its definition.
 use mathlib.Core.Path.{refl}
 use Rattle.questions.specs.Posing.{start_asks}
-use borrow.Author.Rules.{rules}
 use Rattle.questions.proofs.question.start.Goals as goal
 
 pub returns : goal.returns

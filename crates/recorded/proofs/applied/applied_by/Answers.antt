@@ -12,7 +12,6 @@ use Rattle.recorded.specs.Recorded.{stepped_at}
 use Rattle.recorded.proofs.FolderSets.{folders_low, folders_high}
 use Rattle.recorded.proofs.GatheringLaws.{applied_start, applied_half, applied_all}
 use Rattle.recorded.proofs.VisitLaws.{visit_end}
-use borrow.Author.Rules.{rules}
 use Rattle.recorded.proofs.applied.applied_by.Goals as goal
 
 none-applied : (t : Tables) (h : List ℕ) (s : ℕ) {set : Folders} → set ≡ folders_of (stepped_at h s) → set.low ≡ 0 → set.high ≡ 0

@@ -1,10 +1,8 @@
 -- `applied::applied_if` answers the steps that a person applied to a folder: none where the person is not among its steppers.
 use mathlib.Core.Path.{sym, ◌∙◌}
-use borrow.Author.Tests.{not-true}
 use Rattle.bits.proofs.Masks.{mask_test}
 use Rattle.recorded.specs.Recorded.{stepped_at}
 use Rattle.recorded.proofs.GatheringLaws.{unstepped_on}
-use borrow.Author.Rules.{rules}
 use Rattle.recorded.proofs.applied.applied_if.Goals as goal
 
 pub returns-then-not-bit64 : goal.returns-then-not-bit64

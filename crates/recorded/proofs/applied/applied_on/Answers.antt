@@ -3,7 +3,6 @@ use mathlib.Core.Path.{sym, ◌∙◌}
 use borrow.Author.Tests.{not-true, not-false}
 use Rattle.bits.proofs.Masks.{mask_none, mask_ext}
 use Rattle.recorded.specs.Gathering.{applied_on}
-use borrow.Author.Rules.{rules}
 use Rattle.recorded.proofs.applied.applied_on.Goals as goal
 
 pub returns-then-not-folder : goal.returns-then-not-folder

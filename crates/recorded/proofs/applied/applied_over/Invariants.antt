@@ -1,12 +1,7 @@
 -- `applied::applied_over` answers the steps applied up to the last of 64 folders: before each turn the folders that are left lead to them.
 use Prim.Native.Nat.{◌+◌}
-use native.Mathlib.Omega.{arith}
-use mathlib.Core.Path.{ap}
-use lib.Bits.{bit_or}
 use Rattle.recorded.specs.Gathering.{applied_below, applied_after}
 use Rattle.recorded.specs.Visits.{Leads}
-use Rattle.recorded.proofs.GatheringLaws.{applied_half}
-use Rattle.recorded.proofs.VisitLaws.{visited_lt, visit_less, visit_next, visit_end}
 use Rattle.recorded.proofs.applied.applied_over.Given as goal
 
 abbrev pub invariant-loop-rest : goal.invariant-loop-rest

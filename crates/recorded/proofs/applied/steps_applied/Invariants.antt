@@ -1,10 +1,8 @@
 -- `applied::steps_applied` answers the steps that a person applied: after o turns it holds those of the folders below o, and where these
 -- are all, the other folders add none.
-use Prim.Native.Nat.{◌+◌, ◌-◌, ◌≤◌}
-use native.Mathlib.Omega.{arith}
-use mathlib.Core.Path.{◌≡◌, sym, ◌∙◌}
+use Prim.Native.Nat.{◌-◌, ◌≤◌}
+use mathlib.Core.Path.{◌≡◌}
 use Rattle.recorded.specs.Gathering.{applied_below}
-use Rattle.recorded.proofs.GatheringLaws.{applied_start, applied_more, all_found, applied_all}
 use Rattle.recorded.proofs.applied.steps_applied.Given as goal
 
 abbrev pub invariant-loop-o : goal.invariant-loop-o

@@ -3,7 +3,6 @@ use mathlib.Core.Path.{◌∙◌}
 use Rattle.policy.proofs.Requests.{person_below_lem}
 use Rattle.packed.specs.Packed.{tables_of}
 use Rattle.recorded.proofs.GatheringLaws.{stepped_among}
-use borrow.Author.Rules.{rules}
 use Rattle.recorded.proofs.levels.current_level.Goals as goal
 
 pub stepped_by-requires : goal.stepped_by-requires

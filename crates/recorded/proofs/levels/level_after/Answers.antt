@@ -1,8 +1,6 @@
 -- `levels::level_after` answers the level after a folder that was read: one that is undeclared changes nothing, any other leaves the meet.
 use borrow.Author.Tests.{not-true, not-false}
 use Rattle.recorded.specs.Levels.{level_after}
-use Rattle.recorded.proofs.levels.level_after.Lts as lts
-use borrow.Author.Rules.{rules}
 use Rattle.recorded.proofs.levels.level_after.Goals as goal
 
 pub returns-then-not-folder : goal.returns-then-not-folder

@@ -10,7 +10,6 @@ use Rattle.history.specs.Words.{word_at}
 use Rattle.recorded.specs.Recorded.{read_at}
 use Rattle.recorded.specs.Levels.{level_over, level_by}
 use Rattle.recorded.proofs.LevelLaws as laws
-use borrow.Author.Rules.{rules}
 use Rattle.recorded.proofs.levels.level_by_reads.Goals as goal
 
 answer : (t : Tables) (h : List ℕ) (s before : ℕ) → ((i : ℕ) → get_or h i 0 < 256) → {first second low level : ℕ}

@@ -1,7 +1,6 @@
 -- `levels::level_by_steps` answers the level after a set of folders: the first 64, and then the next 64.
 use mathlib.Core.Path.{ap, ◌∙◌}
 use Rattle.recorded.specs.Levels.{level_over, level_by_set}
-use borrow.Author.Rules.{rules}
 use Rattle.recorded.proofs.levels.level_by_steps.Goals as goal
 
 pub returns : goal.returns

@@ -1,6 +1,6 @@
 -- `levels::level_over` answers the level after 64 folders: at each turn the folders left in the set lower the level to the answer, since
 -- the lowest of them can come first. The set is a number that falls, as it loses a bit at each turn.
-use Prim.Native.Nat.{◌+◌, ◌^◌, ◌<◌}
+use Prim.Native.Nat.{◌+◌}
 use native.Mathlib.Omega.{arith}
 use mathlib.Core.Path.{◌≡◌, refl, sym, ◌∙◌}
 use Rattle.bits.proofs.LowestBit.{lowest_lt, lowest_set, without_lt}
@@ -8,7 +8,6 @@ use Rattle.bits.proofs.SetFolds.{set_none, set_lowest}
 use Rattle.packed.specs.Packed.{tables_of}
 use Rattle.policy.specs.Tables.{folder_at}
 use Rattle.recorded.specs.Levels.{level_after, level_over}
-use Rattle.recorded.proofs.levels.level_over.Lts as lts
 use borrow.Author.Rules.{rules}
 use Rattle.recorded.proofs.levels.level_over.Goals as goal
 

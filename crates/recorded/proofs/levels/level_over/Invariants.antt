@@ -1,14 +1,9 @@
 -- `levels::level_over` answers the level after 64 folders: at each turn the folders left in the set lower the level to the answer, since
 -- the lowest of them can come first. The set is a number that falls, as it loses a bit at each turn.
-use Prim.Native.Nat.{◌+◌, ◌^◌, ◌<◌}
-use native.Mathlib.Omega.{arith}
-use mathlib.Core.Path.{◌≡◌, refl, sym, ◌∙◌}
-use Rattle.bits.proofs.LowestBit.{lowest_lt, lowest_set, without_lt}
-use Rattle.bits.proofs.SetFolds.{set_none, set_lowest}
+use Prim.Native.Nat.{◌^◌, ◌<◌}
+use mathlib.Core.Path.{◌≡◌}
 use Rattle.packed.specs.Packed.{tables_of}
-use Rattle.policy.specs.Tables.{folder_at}
-use Rattle.recorded.specs.Levels.{level_after, level_over}
-use Rattle.recorded.proofs.levels.level_over.Lts as lts
+use Rattle.recorded.specs.Levels.{level_over}
 use Rattle.recorded.proofs.levels.level_over.Given as goal
 
 abbrev pub invariant-loop-rest : goal.invariant-loop-rest

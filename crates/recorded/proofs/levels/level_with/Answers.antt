@@ -15,7 +15,6 @@ use Rattle.recorded.specs.Folders.{folders_of}
 use Rattle.recorded.specs.Recorded.{read_at, stepped_at}
 use Rattle.recorded.specs.Levels.{level_by_set, level_by}
 use Rattle.recorded.proofs.LevelLaws.{level_by_set_lem, level_in_parts}
-use borrow.Author.Rules.{rules}
 use Rattle.recorded.proofs.levels.level_with.Goals as goal
 
 answer : (t : Tables) (h : List ℕ) (s : ℕ) → person_declared t s ≡ true → {e : Person} {set : Folders} {read level : ℕ}

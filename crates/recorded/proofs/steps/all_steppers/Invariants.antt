@@ -1,11 +1,8 @@
 -- `steps::all_steppers` answers the steppers of each folder: before each turn those of the folders below the one reached are stored.
 use Prim.Native.Nat.{◌-◌, ◌≤◌}
-use native.Mathlib.Omega.{arith}
-use mathlib.Core.Path.{◌≡◌, refl}
 use Rattle.bits.specs.Bits.{mask_below}
 use Rattle.recorded.specs.Gathering.{FirstAre}
 use Rattle.recorded.specs.Recorded.{stepped_at}
-use Rattle.recorded.proofs.GatheringLaws.{stored_none, stored_more}
 use Rattle.recorded.proofs.steps.all_steppers.Given as goal
 
 abbrev pub invariant-loop-o : goal.invariant-loop-o

@@ -2,7 +2,6 @@
 use lib.ListN.{get_or}
 use Rattle.bits.specs.Bits.{bit}
 use Rattle.recorded.proofs.FolderSets.{folders_are}
-use borrow.Author.Rules.{rules}
 use Rattle.recorded.proofs.steps.stepped_by.Goals as goal
 
 pub returns : goal.returns

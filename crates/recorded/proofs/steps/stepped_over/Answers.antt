@@ -1,10 +1,8 @@
 -- `steps::stepped_over` answers the set of those of 64 folders whose steppers have a person among them: after i turns it holds those
 -- below i.
-use Prim.Native.Nat.{◌+◌, ◌-◌, ◌%◌, ◌≤◌}
+use Prim.Native.Nat.{◌-◌, ◌%◌}
 use native.Mathlib.Omega.{arith}
 use mathlib.Core.Path.{◌≡◌, sym, ◌∙◌}
-use lib.ListN.{get_or}
-use Rattle.bits.specs.Bits.{bit, mask_below}
 use Rattle.bits.proofs.Masks.{mask_start, mask_step}
 use borrow.Author.Rules.{rules}
 use Rattle.recorded.proofs.steps.stepped_over.Goals as goal

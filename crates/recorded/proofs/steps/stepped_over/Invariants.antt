@@ -1,11 +1,9 @@
 -- `steps::stepped_over` answers the set of those of 64 folders whose steppers have a person among them: after i turns it holds those
 -- below i.
-use Prim.Native.Nat.{◌+◌, ◌-◌, ◌%◌, ◌≤◌}
-use native.Mathlib.Omega.{arith}
-use mathlib.Core.Path.{◌≡◌, sym, ◌∙◌}
+use Prim.Native.Nat.{◌+◌, ◌-◌, ◌≤◌}
+use mathlib.Core.Path.{◌≡◌}
 use lib.ListN.{get_or}
 use Rattle.bits.specs.Bits.{bit, mask_below}
-use Rattle.bits.proofs.Masks.{mask_start, mask_step}
 use Rattle.recorded.proofs.steps.stepped_over.Given as goal
 
 abbrev pub invariant-loop-i : goal.invariant-loop-i

@@ -1,6 +1,6 @@
 -- `steps::steppers` answers the set of the persons who stepped on a folder: after p turns it holds those who applied one of the steps
 -- below p.
-use Prim.Native.Nat.{◌-◌, ◌≤◌}
+use Prim.Native.Nat.{◌-◌}
 use native.Mathlib.Omega.{arith}
 use mathlib.Core.Path.{◌≡◌}
 use Rattle.recorded.specs.Recorded.{stepped_at}

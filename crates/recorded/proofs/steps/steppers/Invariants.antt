@@ -1,10 +1,8 @@
 -- `steps::steppers` answers the set of the persons who stepped on a folder: after p turns it holds those who applied one of the steps
 -- below p.
 use Prim.Native.Nat.{◌-◌, ◌≤◌}
-use native.Mathlib.Omega.{arith}
 use mathlib.Core.Path.{◌≡◌}
-use Rattle.recorded.specs.Recorded.{stepped_at}
-use Rattle.recorded.proofs.Steppers.{steppers_below, no_steppers, more_steppers}
+use Rattle.recorded.proofs.Steppers.{steppers_below}
 use Rattle.recorded.proofs.steps.steppers.Given as goal
 
 abbrev pub invariant-loop-step : goal.invariant-loop-step

@@ -1,10 +1,10 @@
 -- `steps::steps_of` answers the set of the steps that a person applied to a folder: after p turns it holds the steps below p, shifted up by
 -- the number of the person's bit, and at the end it is shifted down.
-use Prim.Native.Nat.{ℕ, ◌-◌, ◌*◌, ◌%◌, ◌^◌, ◌≤◌}
+use Prim.Native.Nat.{ℕ, ◌-◌, ◌*◌, ◌%◌, ◌^◌}
 use native.Mathlib.Omega.{arith}
-use mathlib.Core.Path.{◌≡◌, refl, ap, ◌∙◌}
+use mathlib.Core.Path.{refl, ap, ◌∙◌}
 use lib.Bits.{bit_or, mask_lt}
-use Rattle.recorded.proofs.StepLaws.{steps_below, no_steps, steps_step, all_steps, steps_fit}
+use Rattle.recorded.proofs.StepLaws.{no_steps, steps_step, all_steps, steps_fit}
 use borrow.Author.Rules.{rules}
 use Rattle.recorded.proofs.steps.steps_of.Goals as goal
 

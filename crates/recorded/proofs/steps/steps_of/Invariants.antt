@@ -1,10 +1,8 @@
 -- `steps::steps_of` answers the set of the steps that a person applied to a folder: after p turns it holds the steps below p, shifted up by
 -- the number of the person's bit, and at the end it is shifted down.
-use Prim.Native.Nat.{ℕ, ◌-◌, ◌*◌, ◌%◌, ◌^◌, ◌≤◌}
-use native.Mathlib.Omega.{arith}
-use mathlib.Core.Path.{◌≡◌, refl, ap, ◌∙◌}
-use lib.Bits.{bit_or, mask_lt}
-use Rattle.recorded.proofs.StepLaws.{steps_below, no_steps, steps_step, all_steps, steps_fit}
+use Prim.Native.Nat.{◌-◌, ◌≤◌}
+use mathlib.Core.Path.{◌≡◌}
+use Rattle.recorded.proofs.StepLaws.{steps_below}
 use Rattle.recorded.proofs.steps.steps_of.Given as goal
 
 abbrev pub invariant-loop-p : goal.invariant-loop-p

@@ -1,8 +1,6 @@
 -- `run` gathers what the run keeps, puts the whole records as `run_by` does, and stores the levels that the sets kept are those of.
 use Rattle.levels.proofs.SetLaws.{sets_held}
 use Rattle.running.proofs.KeptTurns.{kept_stored}
-use Rattle.running.proofs.kept.run.Lts as lts
-use borrow.Author.Rules.{rules}
 use Rattle.running.proofs.kept.run.Goals as goal
 
 pub run_by-ran-requires : goal.run_by-ran-requires

@@ -6,15 +6,10 @@ use native.Mathlib.Omega.{arith}
 use mathlib.Core.Path.{refl, sym, ap, ◌∙◌}
 use borrow.Author.Rules.{part_to_end}
 use Rattle.policy.specs.Tables.{folder_at}
-use Rattle.policy.specs.Calls.{state}
-use Rattle.keeping.specs.Keeping.{kept}
-use Rattle.running.specs.Kept.{Kept}
 use Rattle.running.proofs.ClassOf.{class_is}
 use Rattle.putting.proofs.Turns.{granted_one, done_granted}
-use Rattle.putting.proofs.WholeRecords.{Left, starts, whole_before, below_end, due_from_end, goes_parsed}
+use Rattle.putting.proofs.WholeRecords.{starts, whole_before, below_end, due_from_end, goes_parsed}
 use Rattle.running.proofs.KeptTurns.{kept_none, serves_by, kept_sized, kept_room, kept_onward, kept_further, kept_more}
-use Rattle.running.proofs.kept.run_by.Lts as lts
-use borrow.Author.Rules.{rules}
 use Rattle.running.proofs.kept.run_by.Goals as goal
 
 pub loop-at-init : goal.loop-at-init

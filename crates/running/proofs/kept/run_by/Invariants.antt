@@ -1,19 +1,11 @@
 -- `run_by` comes to where the whole records end: at each turn, what is written and what the rest of the requests gives on the history and
 -- the levels so far are what the whole run gives, what is kept is what they give, and before the end a whole record stands; from the end
 -- on none does.
-use Prim.Native.Nat.{ℕ, ◌-◌, ◌%◌}
-use native.Mathlib.Omega.{arith}
-use mathlib.Core.Path.{refl, sym, ap, ◌∙◌}
-use borrow.Author.Rules.{part_to_end}
-use Rattle.policy.specs.Tables.{folder_at}
+use Prim.Native.Nat.{◌-◌}
 use Rattle.policy.specs.Calls.{state}
 use Rattle.keeping.specs.Keeping.{kept}
 use Rattle.running.specs.Kept.{Kept}
-use Rattle.running.proofs.ClassOf.{class_is}
-use Rattle.putting.proofs.Turns.{granted_one, done_granted}
-use Rattle.putting.proofs.WholeRecords.{Left, starts, whole_before, below_end, due_from_end, goes_parsed}
-use Rattle.running.proofs.KeptTurns.{kept_none, serves_by, kept_sized, kept_room, kept_onward, kept_further, kept_more}
-use Rattle.running.proofs.kept.run_by.Lts as lts
+use Rattle.putting.proofs.WholeRecords.{Left}
 use Rattle.running.proofs.kept.run_by.Given as goal
 
 abbrev pub invariant-loop-at : goal.invariant-loop-at

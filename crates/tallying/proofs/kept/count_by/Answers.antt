@@ -7,17 +7,13 @@ use lib.ListN.{drop}
 use borrow.Author.Rules.{part_to_end}
 use Rattle.policy.specs.declared.Folder.{Folder}
 use Rattle.policy.specs.Tables.{folder_at}
-use Rattle.policy.specs.Calls.{state}
 use Rattle.keeping.specs.Keeping.{kept}
 use Rattle.policy.proofs.CountedUnder.{row_within}
-use Rattle.tallying.specs.Counted.{CountedKept}
 use Rattle.running.proofs.ClassOf.{class_is}
 use Rattle.putting.proofs.Turns.{granted_one, done_granted}
-use Rattle.putting.proofs.WholeRecords.{Left, starts, whole_before, below_end, due_from_end, goes_parsed}
+use Rattle.putting.proofs.WholeRecords.{starts, whole_before, below_end, due_from_end, goes_parsed}
 use Rattle.running.proofs.KeptTurns.{serves_by, kept_sized, kept_onward, kept_further}
 use Rattle.tallying.proofs.CountTurns.{enough, none_kept, more_kept, number_below}
-use Rattle.tallying.proofs.kept.count_by.Lts as lts
-use borrow.Author.Rules.{rules}
 use Rattle.tallying.proofs.kept.count_by.Goals as goal
 
 pub loop-at-init : goal.loop-at-init

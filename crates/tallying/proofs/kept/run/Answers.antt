@@ -1,8 +1,6 @@
 -- `run` gathers what the run keeps, counts the whole records as `count_by` does, and stores the levels that the sets kept are those of.
 use Rattle.levels.proofs.SetLaws.{sets_held}
 use Rattle.tallying.proofs.CountTurns.{stored}
-use Rattle.tallying.proofs.kept.run.Lts as lts
-use borrow.Author.Rules.{rules}
 use Rattle.tallying.proofs.kept.run.Goals as goal
 
 pub count_by-ran-requires : goal.count_by-ran-requires
