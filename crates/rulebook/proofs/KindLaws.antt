@@ -2,7 +2,7 @@
 -- of what they look it up in.
 use Prim.Native.Nat.{ℕ, suc, ◌≤◌, ◌<◌, zero-le}
 use native.Mathlib.Omega.{arith}
-use mathlib.Core.List.{List, ◌∷◌}
+use mathlib.Core.List.{List, [], ◌∷◌}
 use mathlib.Core.Path.{◌≡◌}
 use lib.ListN.{get_or, take, drop, get_or-eq_default}
 use Rattle.policy.specs.Rulebook.{end, rules, firm, person, folder, role, pair, public, last_kind, body_length, little_endian, record_of}
