@@ -1,5 +1,6 @@
 -- `intake::fill`: what a read put after the bytes that stand at the start of the buffer was the reader's next.
-use Rattle.std.proofs.Common.{◌≡◌, ℕ, ◌+◌, ◌-◌, ◌≤◌, List, ◌++◌, arith, length, take, drop, sym, ap, ◌∙◌, subst, le_refl, drop_at, length-take-le}
+use Rattle.std.proofs.Common.{◌≡◌, ℕ, ◌+◌, ◌-◌, ◌≤◌, List, ◌++◌, arith, length, take, drop}
+use Rattle.std.proofs.Common.{sym, ap, ◌∙◌, subst, le_refl, drop_at, length-take-le}
 use Rattle.std.proofs.lemmas.Slice.{take-put_mid_below}
 use Rattle.std.specs.Io.KnownBytes.{Consumes}
 use Rattle.std.proofs.KnownBytes.{Consumes-trans}
@@ -28,4 +29,5 @@ loop-done-preserved g c =
     let read = c.read.new.buf in
     let within = c.loop-done.invariant.0 in
     let same = take_written a (length before - a) n before read within c.in_ok-n.ensures.bound.0 in
-    (omega (arith, c.in_ok-n.ensures.bound.0), subst (Consumes _ _) same (Consumes-trans _ _ _ _ _ c.loop-done.invariant.1 c.in_ok-n.ensures.bytes.0))
+    let more = Consumes-trans _ _ _ _ _ c.loop-done.invariant.1 c.in_ok-n.ensures.bytes.0 in
+    (omega (arith, c.in_ok-n.ensures.bound.0), subst (Consumes _ _) same more)

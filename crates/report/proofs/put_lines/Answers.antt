@@ -13,7 +13,9 @@ loop-next-init c =
     reached_start args.numbers.now args.first args.out.now
 
 pub returns-then-out-len-lt-LINE : goal.returns-then-out-len-lt-LINE
-returns-then-out-len-lt-LINE c = reached_all c.loop-next.invariant (fitting_full _ _ _ (omega (arith, c.if-out-len-lt-LINE.true, c.loop-next.invariant.same)))
+returns-then-out-len-lt-LINE c =
+    let reached = c.loop-next.invariant in
+    reached_all reached (fitting_full _ _ _ (omega (arith, c.if-out-len-lt-LINE.true, reached.same)))
 
 pub loop-next-preserved : goal.loop-next-preserved
 loop-next-preserved c =

@@ -16,4 +16,4 @@ returns-then-person-ge-PERSONS c =
 
 pub returns : goal.returns
 unfolding level_by_reads
-returns c = rw (eq-eqb _ _ c.if-history-ne-BYTES.false, lt-ltb _ _ c.if-person-ge-PERSONS.false) c.level_by_reads-level.ensures
+returns c = rw (eq-eqb _ _ c.if-history-ne-BYTES.false, lt-ltb c.args.person 64 c.if-person-ge-PERSONS.false) c.level_by_reads-level.ensures
