@@ -2,7 +2,8 @@
 // What it prints is made by the crate `report` from what the crate `monitor` answers; nothing is judged here.
 #![tactic(auto)]
 
-use policy::{Tables, numbers};
+use policy::Tables;
+use report::shown::{BookRefused, TooLong, Totals};
 use std::io;
 use std::io::Write;
 
@@ -12,11 +13,11 @@ const LIMIT: usize = 65536;
 // Prints the lines of the answers, a buffer full at a time.
 fn print_lines<W: Write>(answers: &[u8], to: &mut W) -> io::Result<()> {
     let mut first = 0;
+    // No `for`: how many lines the buffer took tells where the next turn begins.
     while first < answers.len() {
         let mut out = [0u8; 4096];
         let filled = report::put_lines(answers, first, &mut out);
-        let len = filled.len;
-        to.write_all(&out[..len])?;
+        to.write_all(&out[..filled.len])?;
         first = filled.next;
     }
     Ok(())
@@ -31,18 +32,22 @@ fn print_answers<W: Write>(t: Tables, requests: &[u8], to: &mut W) -> io::Result
     let ran = monitor::run(t, &mut history, &mut levels, requests, &mut answers);
     let due = ran.granted + ran.refused;
     print_lines(&answers[..due], to)?;
-    let mut out = [0u8; 64];
-    let len = report::put_totals(ran.granted, ran.refused, &mut out);
-    to.write_all(&out[..len])
+    let totals = Totals {
+        granted: ran.granted,
+        refused: ran.refused,
+    };
+    write!(to, "{totals}")
 }
 
 // Prints what the input comes to: a refused book, or the answers to its requests.
 fn answer<W: Write>(input: &[u8], to: &mut W) -> io::Result<()> {
     let loaded = monitor::load(input);
-    if loaded.number != numbers::GRANTED {
-        let mut out = [0u8; 64];
-        let len = report::put_book_refused(loaded.number, loaded.offset, &mut out);
-        return to.write_all(&out[..len]);
+    if loaded.number != 0 {
+        let refused = BookRefused {
+            number: loaded.number,
+            offset: loaded.offset,
+        };
+        return write!(to, "{refused}");
     }
     print_answers(loaded.tables, monitor::rest(input), to)
 }
@@ -52,9 +57,7 @@ fn main(rt: HostRuntime) -> io::Result<()> {
     let n = intake::fill(&mut rt.stdin(), &mut input)?;
     let mut to = rt.stdout();
     if n > LIMIT {
-        let mut out = [0u8; 64];
-        let len = report::put_too_long(&mut out);
-        return to.write_all(&out[..len]);
+        return write!(to, "{}", TooLong);
     }
     answer(&input[..n], &mut to)
 }

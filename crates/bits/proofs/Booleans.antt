@@ -3,7 +3,14 @@
 use mathlib.Core.Path.{◌≡◌, refl, sym}
 use mathlib.Core.Logic.{◌⊎◌, inl, inr}
 use mathlib.Core.Bool.{Bool, true, false, cond, ◌&&◌, ◌||◌, false≢true}
+use Rattle.std.specs.Int.{from_bool}
 use Rattle.bits.specs.Bounded.{◌implies◌}
+
+-- ---- a test as a number
+
+pub from_bool_cond : (b : Bool) → from_bool b ≡ cond b 1 0
+from_bool_cond true = refl
+from_bool_cond false = refl
 
 -- ---- and
 

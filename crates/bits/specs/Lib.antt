@@ -1,3 +1,4 @@
 pub mod Bounded
 pub mod Bits
 pub mod Filling
+pub mod Lowest

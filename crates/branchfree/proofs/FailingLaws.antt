@@ -3,9 +3,10 @@
 use Prim.Native.Nat.{ℕ, ◌+◌, ◌*◌, ◌%◌, ◌<◌}
 use native.Mathlib.Nat.{one-mul, zero-mul, mod-eq_of_lt}
 use native.Mathlib.Omega.{arith}
-use mathlib.Core.Path.{◌≡◌, refl, ap₂, ◌∙◌}
+use mathlib.Core.Path.{◌≡◌, refl, sym, ap₂, ◌∙◌}
 use mathlib.Core.Logic.{⊎_elim}
 use mathlib.Core.Bool.{Bool, true, false, cond, not, ◌&&◌, ◌||◌}
+use mir.Val.{bool_byte}
 use lib.Dec.{eqb, ltb}
 use lib.Bits.{bit_and, bit_or}
 use lib.ListN.{get_or}
@@ -28,6 +29,11 @@ every_at p all true = and_left (p true) (p false) all
 every_at p all false = and_right (p true) (p false) all
 
 -- ---- one bit
+
+-- a test as a number
+pub as_one : (b : Bool) {x : ℕ} → x ≡ bool_byte b → x ≡ cond b 1 0
+as_one true e = e
+as_one false e = e
 
 pub and_ones : (a b : Bool) {x y : ℕ} → x ≡ cond a 1 0 → y ≡ cond b 1 0 → bit_and x y ≡ cond (a && b) 1 0
 and_ones true true e f = ap₂ bit_and e f
@@ -142,3 +148,9 @@ granted_at n l =
     same true false e = absurd (false_elim false refl e)
     same false true e = absurd (false_elim false refl e)
     same false false e = refl
+
+-- ---- what is not asked about
+
+-- a rule that is not asked about is not in force, where each rule in force is asked about; a parameter is true where its number is not 0
+pub unasked : (asked : ℕ) (force : Bool) → (not (eqb asked 0) && force) ≡ force → asked ≡ 0 → force ≡ false
+unasked asked force enough none = sym (rw none at enough)

@@ -69,10 +69,6 @@ pub by_place_most : (kind : ℕ) → row_of kind 2 ≤ 1024
 unfolding kind_rows all_below
 by_place_most = row_most 2 1024 refl
 
-pub first_right_most : (kind : ℕ) → row_of kind 4 ≤ 48
-unfolding kind_rows all_below
-first_right_most = row_most 4 48 refl
-
 pub first_set_most : (kind : ℕ) → row_of kind 10 ≤ 64
 unfolding kind_rows all_below
 first_set_most = row_most 10 64 refl
@@ -223,14 +219,12 @@ row_of_lem kind s o p low high =
 
 -- ---- rights
 
-pub right_small : (kind s o p f : ℕ) → 15 < kind → kind < 20 → right_by kind f (placed_by kind s o p).step < 64
-unfolding right_by placed_by row_of kind_rows
-right_small kind s o p f low high =
-    let z = and_zero_r p in
-    let y = and_zero_r f in
+pub right_small : (kind f p : ℕ) → 15 < kind → kind < 20 → p < 16 → right_by kind f p < 64
+unfolding right_by row_of kind_rows
+right_small kind f p low high small =
+    let z = and_zero_r f in
     let a = mask_lt f 4 in
-    let b = mask_lt p 4 in
-    by_kind (λ (k : ℕ). right_by k f (placed_by k s o p).step < 64) (omega arith) (omega arith) (omega arith) (omega arith) kind low high
+    by_kind (λ (k : ℕ). right_by k f p < 64) (omega arith) (omega arith) (omega arith) (omega arith) kind low high
 
 -- the right of a request that is in range, on a folder of one of 16 kinds
 pub right_is : (t : Tables) (kind s o p f : ℕ) → 15 < kind → kind < 20 → has_place (asked_by kind s o p) ≡ true

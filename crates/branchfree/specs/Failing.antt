@@ -1,5 +1,5 @@
 -- The checks of a request that fail, and the first of them.
-use Rattle.std.specs.Prelude.{ℕ, ◌%◌, Bool, cond, not, ◌&&◌, ◌||◌, List, [], ◌∷◌, eqb, leb}
+use Rattle.std.specs.Prelude.{ℕ, ◌%◌, ◌≡◌, Bool, cond, not, ◌&&◌, ◌||◌, List, [], ◌∷◌, eqb, leb}
 use Rattle.std.specs.Int.Bits.{bit_and, bit_or}
 use Rattle.bits.specs.Bits.{bit}
 use Rattle.level.specs.Levels.{rank_of, compartments_of}
@@ -58,3 +58,9 @@ failing_of q mask a b m n asked counted class firm holding holders next p =
       roles = bit mask roles_rule && eqb (bit_and holding holders) 0;
       pipeline = bit mask pipeline_rule && (not (bit next (p % 64)) && is_step q);
     }
+
+-- what is asked about, or not, of the wall, the roles and the pipeline: each of them that is in force is asked about
+pub record Enough (wall roles pipeline : Bool) (mask : ℕ) : Type 0 where
+  pub walls : (wall && bit mask wall_rule) ≡ bit mask wall_rule
+  pub rights : (roles && bit mask roles_rule) ≡ bit mask roles_rule
+  pub steps : (pipeline && bit mask pipeline_rule) ≡ bit mask pipeline_rule

@@ -1,11 +1,15 @@
 // What a granted request adds to what is lent and kept, with no jump on whether it is granted: `all` has every bit where it is, and none
 // otherwise.
-ghost use Rattle.std.specs.Prelude.{◌≡◌, Bool, cond, ◌&&◌, ◌%◌, ◌<◌, length, get_or, set};
+ghost use Rattle.std.specs.Prelude.{◌≡◌, Bool, cond, ◌&&◌, ◌%◌, ◌<◌, get_or, set};
 ghost use Rattle.std.specs.Int.Bits.{bit_and};
 ghost use Rattle.bits.specs.Bits.{bit, with_bit, mask_below};
 ghost use Rattle.policy.specs.Tables.{wall_rule, roles_rule, pipeline_rule};
-ghost use Rattle.policy.specs.History.{history_bytes, with_bit_at};
+ghost use Rattle.policy.specs.History.{with_bit_at};
 ghost use Rattle.pipeline.specs.Steps.{pipeline_in};
+
+use bits::Word;
+use history::History;
+use policy::{Rule, in_force};
 
 // The part of a set that is in another, or the set itself.
 pub fn narrowed(set: u64, other: u64, all: u64) -> u64
@@ -15,18 +19,19 @@ pub fn narrowed(set: u64, other: u64, all: u64) -> u64
 }
 
 // Sets the bit of index i.
-pub fn set_bit(h: &mut [u8], i: usize, all: u64)
-    requires { (length h.old ≡ history_bytes) × (i < 151552) }
+pub fn set_bit(h: &mut History, i: usize, all: u64)
+    requires { i < 151552 }
     ensures { (b : Bool) → all ≡ cond b 18446744073709551615 0 → h.new ≡ cond b (with_bit_at h.old i) h.old }
 {
     let at = i >> 3;
+    // A cast, here and in `keep_step`: there is no From to a narrower number, and a TryFrom would have an Err that never comes.
     let one = (all & 1) as u8;
-    h[at] = h[at] | (one << (i & 7));
+    h[at] |= one << (i & 7);
 }
 
 // Person s accessed a folder of a firm that the wall counts if `counts` is 1.
 pub fn keep_firm(mask: u8, firms: &mut [u64; 64], s: usize, firm: usize, counts: u64, all: u64)
-    requires { (length firms.old ≡ 64) × (s < 64) }
+    requires { s < 64 }
     ensures { (b c : Bool) → all ≡ cond b 18446744073709551615 0 → counts ≡ cond c 1 0
         → firms.new
         ≡ cond (bit mask wall_rule)
@@ -34,14 +39,14 @@ pub fn keep_firm(mask: u8, firms: &mut [u64; 64], s: usize, firm: usize, counts:
         (cond (b && c) (with_bit (get_or firms.old s 0) (firm % 64)) (get_or firms.old s 0)))
         firms.old }
 {
-    if bits::bit8(mask, policy::WALL_RULE) {
-        firms[s] = firms[s] | ((all & counts) << (firm & 63));
+    if in_force(mask, Rule::Wall) {
+        firms[s] |= (all & counts) << (firm & 63);
     }
 }
 
 // Person s used a right that these roles hold.
 pub fn keep_roles(mask: u8, holding: &mut [u64; 64], s: usize, holders: u64, all: u64)
-    requires { (length holding.old ≡ 64) × (s < 64) }
+    requires { s < 64 }
     ensures { (b : Bool) → all ≡ cond b 18446744073709551615 0
         → holding.new
         ≡ cond (bit mask roles_rule)
@@ -49,12 +54,13 @@ pub fn keep_roles(mask: u8, holding: &mut [u64; 64], s: usize, holders: u64, all
         (cond b (bit_and (get_or holding.old s 0) holders) (get_or holding.old s 0)))
         holding.old }
 {
-    if bits::bit8(mask, policy::ROLES_RULE) {
+    if in_force(mask, Rule::Roles) {
         holding[s] = narrowed(holding[s], holders, all);
     }
 }
 
-// Step p was done on folder o, if `made` is 1.
+// Step p was done on folder o, if `made` is 1. The two arrays are lent apart: a
+// struct of the two alone would be made for this call and no other.
 pub fn keep_step(
     mask: u8,
     steps: &[u16; 16],
@@ -64,7 +70,7 @@ pub fn keep_step(
     p: usize,
     made: u64,
 )
-    requires { (length done.old ≡ 128) × (length next.old ≡ 128) × (o < 128) }
+    requires { o < 128 }
     ensures { (b : Bool) → made ≡ cond b 1 0
         → (done.new
         ≡ cond b
@@ -78,9 +84,9 @@ pub fn keep_step(
         next.old)
         next.old) }
 {
-    if bits::bit8(mask, policy::PIPELINE_RULE) {
+    if in_force(mask, Rule::Pipeline) {
         if made != 0 {
-            let more = bits::with_bit64(done[o], p);
+            let more = done[o].with_bit(p);
             done[o] = more;
             next[o] = pipeline::next_steps(steps, (more % 65536) as u16);
         }

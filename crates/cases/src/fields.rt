@@ -1,86 +1,36 @@
 // Changing one field of the tables by its number. A value is cut to the field's width.
 use level::Level;
-use policy::{Firm, Folder, Person, Role, Tables};
+use policy::Tables;
 
 // The low 8 bits.
 fn low8(n: u64) -> u8 {
-    (n % 256) as u8
+    let [low, ..] = n.to_le_bytes();
+    low
 }
 
 // The low 16 bits.
 fn low16(n: u64) -> u16 {
-    (n % 65536) as u16
+    let [low, high, ..] = n.to_le_bytes();
+    u16::from_le_bytes([low, high])
 }
 
-// A firm with its mark (1) or its class changed.
-fn firm(e: Firm, which: u8, value: u64) -> Firm {
-    if which == 1 {
-        return Firm {
-            declared: value != 0,
-            class: e.class,
-        };
-    }
-    Firm {
-        declared: e.declared,
-        class: low8(value),
-    }
-}
-
-// A person with the mark (3) or the first level changed.
-fn person(e: Person, which: u8, value: u64) -> Person {
-    if which == 3 {
-        let level = e.level;
-        return Person {
-            declared: value != 0,
-            level: level,
-        };
-    }
-    let level = Level(low16(value));
-    Person {
-        declared: e.declared,
-        level: level,
-    }
-}
-
-// A folder with its mark (5), firm (6), kind (7), the mark of a public one (12) or its level changed.
-fn folder(e: Folder, which: u8, value: u64) -> Folder {
-    let mut n = e;
-    let level = Level(low16(value));
+// Changes one field: the mask (0), a firm's mark (1) or class, a person's mark (3) or level, a folder's mark (5), firm, kind, level or the
+// mark of a public one (12), a role's mark (9) or rights, or the steps that a step enables (11).
+pub fn change(t: &mut Tables, which: u8, index: usize, value: u64) {
     match which {
-        5 => n.declared = value != 0,
-        6 => n.firm = low8(value),
-        7 => n.kind = low8(value),
-        12 => n.public = value != 0,
-        _ => n.level = level,
-    }
-    n
-}
-
-// A role with its mark (9) or its rights changed.
-fn role(e: Role, which: u8, value: u64) -> Role {
-    if which == 9 {
-        return Role {
-            declared: value != 0,
-            rights: e.rights,
-        };
-    }
-    Role {
-        declared: e.declared,
-        rights: value,
-    }
-}
-
-// The tables with one field changed.
-pub fn changed(t: Tables, which: u8, index: usize, value: u64) -> Tables {
-    let mut n = t;
-    match which {
-        0 => n.mask = low8(value),
-        1..=2 => n.firms[index % 64] = firm(t.firms[index % 64], which, value),
-        3..=4 => n.persons[index % 64] = person(t.persons[index % 64], which, value),
-        5..=8 | 12 => n.folders[index % 128] = folder(t.folders[index % 128], which, value),
-        9..=10 => n.roles[index % 32] = role(t.roles[index % 32], which, value),
-        11 => n.steps[index % 16] = low16(value),
+        0 => t.mask = low8(value),
+        1 => t.firms[index % 64].declared = value != 0,
+        2 => t.firms[index % 64].class = low8(value),
+        3 => t.persons[index % 64].declared = value != 0,
+        4 => t.persons[index % 64].level = Level(low16(value)),
+        5 => t.folders[index % 128].declared = value != 0,
+        6 => t.folders[index % 128].firm = low8(value),
+        7 => t.folders[index % 128].kind = low8(value),
+        8 => t.folders[index % 128].level = Level(low16(value)),
+        9 => t.roles[index % 32].declared = value != 0,
+        10 => t.roles[index % 32].rights = value,
+        11 => t.steps[index % 16] = low16(value),
+        12 => t.folders[index % 128].public = value != 0,
         _ => (),
     }
-    n
 }

@@ -1,25 +1,33 @@
 -- One more for each request read is as many more as there are requests read of a firm with a number: each raises one of the 2,080 counts,
 -- since its firm is at most 64 and its number at most 31, and a count raised first is the count raised once more at last.
-use Prim.Native.Nat.{ℕ, zero, suc, ◌+◌, ◌*◌, ◌/◌, ◌%◌, ◌≤◌, ◌<◌}
+use Prim.Native.Nat.{ℕ, zero, suc, ◌+◌, ◌-◌, ◌*◌, ◌/◌, ◌%◌, ◌^◌, ◌≤◌, ◌<◌, min}
 use native.Mathlib.Omega.{arith}
 use mathlib.Core.Path.{◌≡◌, refl, sym, ap, ap₂, ◌∙◌}
-use mathlib.Core.Logic.{◌≢◌}
+use mathlib.Core.Logic.{◌≢◌, ⊎_elim}
 use mathlib.Core.Bool.{true, cond, ◌&&◌}
 use mathlib.Core.List.{List, [], ◌∷◌, ◌++◌}
 use lib.Dec.{eqb}
 use lib.ListN.{length, get_or, set, length-set}
-use borrow.Author.Tests.{le-ltb, eq-eqb, ne_eqb}
+use borrow.Author.Tests.{le-ltb, eq-eqb, ne_eqb, eqb-true, eqb-false}
+use Rattle.bits.proofs.Booleans.{decide}
 use Rattle.policy.specs.declared.Tables.{Tables}
 use Rattle.policy.specs.Rulebook.{given}
 use Rattle.policy.specs.Request.{request_of}
 use Rattle.policy.specs.Calls.{State, judge_number, put_state, put_numbers}
-use Rattle.policy.specs.Tallies.{counted_under, count_in, raised, raised_by, with_raised}
+use Rattle.policy.specs.Tallies.{counted_under, count_in, largest_count, raised, raised_by, with_raised}
 use Rattle.policy.proofs.Tallies.{one_place}
 use Rattle.policy.proofs.CountedUnder.{row_within}
 use Rattle.policy.proofs.TalliedCalls.{judge_small}
 use Rattle.counts.specs.Counting.{raised_at, with_one, with_requests}
 
 -- ---- one more
+
+pub raised_by_one : (count : ℕ) → count < 2 ^ 64 → min (count + 1) (2 ^ 64 - 1) ≡ raised count
+unfolding raised
+raised_by_one count fits =
+    ⊎_elim (λ e. let is = eqb-true count largest_count e in rw e (omega (arith, is)))
+    (λ e. let other = eqb-false count largest_count e in rw e (omega (arith, fits, other)))
+    (decide (eqb count largest_count))
 
 pub one_raised : (counts : List ℕ) (f n : ℕ) → f ≤ 64 → n < 32 → with_one counts f n ≡ raised_at counts f n
 unfolding with_one

@@ -1,11 +1,10 @@
--- What a plan by a book comes to, and its positions, stored one after another over the first bytes of those lent for them.
-use Prim.Native.Nat.{ℕ, suc, ◌+◌, ◌≤◌, ◌<◌}
+-- What a plan by a book comes to, with its positions over the first bytes of those lent for them.
+use Prim.Native.Nat.{ℕ, ◌≤◌, ◌<◌}
 use native.Mathlib.Omega.{arith}
 use mathlib.Core.Path.{◌≡◌, refl, sym, ap, ◌∙◌}
 use mathlib.Core.Logic.{◌≢◌}
-use mathlib.Core.List.{List, [], ◌∷◌, ◌++◌, append_assoc}
-use lib.ListN.{length, get_or, set, take, drop, length-append, length-drop}
-use lib.Seq.{take-suc, drop-cons, set_at, take_all, length-take-le}
+use mathlib.Core.List.{List, ◌++◌}
+use lib.ListN.{length, drop}
 use borrow.Author.Tests.{eq-eqb, ne_eqb, le-leb, lt-leb}
 use Rattle.policy.specs.declared.Loaded.{Loaded}
 use Rattle.policy.specs.declared.Job.{Job}
@@ -15,25 +14,6 @@ use Rattle.policy.specs.Calls.{State, call_checks}
 use Rattle.policy.specs.Plans.{IsPlan}
 use Rattle.policy.proofs.CallChecks.{taken, ready_then, refused_first}
 use Rattle.exports.specs.Packed.{room_by, positions_by, PlanBy}
-
--- ---- the positions
-
-module _ (found lent : List ℕ) (size : length found ≡ 64) (room : 64 ≤ length lent) where
-  pasted_front : (k : ℕ) → k ≤ 64 → length (take k found) ≡ k
-  pasted_front k l = length-take-le k found (omega arith)
-
-  pub pasted_length : (k : ℕ) → k ≤ 64 → length (take k found ++ drop k lent) ≡ length lent
-  pasted_length k l = omega (arith, length-append (take k found) (drop k lent), pasted_front k l, length-drop k lent)
-
-  pub pasted_more : (k : ℕ) → k < 64 → set (take k found ++ drop k lent) k (get_or found k 0) ≡ take (k + 1) found ++ drop (k + 1) lent
-  pasted_more k l =
-      let more : k + 1 ≡ suc k = omega arith in
-      rw (more, drop-cons lent k 0 (omega arith), take-suc found k 0 (omega arith))
-      (set_at (take k found) (get_or lent k 0) (drop (suc k) lent) (get_or found k 0) k (pasted_front k (omega arith))
-      ∙ sym (append_assoc (take k found) (get_or found k 0 ∷ []) (drop (suc k) lent)))
-
-  pub pasted_all : take 64 found ++ drop 64 lent ≡ found ++ drop 64 lent
-  pasted_all = ap (λ (l : List ℕ). l ++ drop 64 lent) (take_all 64 found (omega arith))
 
 -- ---- the number
 

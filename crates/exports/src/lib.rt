@@ -1,5 +1,6 @@
 // The calls of the access monitor for programs in C and Rust: byte slices and numbers only. Tables do not cross this boundary; a call
 // that needs them takes the bytes of the rulebook and loads it. A refused book is answered with its number, and then nothing changes.
+// `Loaded`, `Ran`, `Standing` and `Plan` stay records with a number: the definitions of policy and the theorems over them hold them.
 #![tactic(auto)]
 
 ghost use Rattle.std.specs.Prelude.{◌≡◌, ◌++◌, ◌≤◌, length, drop};
@@ -22,32 +23,33 @@ ghost use Rattle.exports.specs.Packed.{
   PlanBy,
 };
 
-use policy::numbers;
+use policy::{GRANTED, GivenTables, Refusal, number_of};
 
-// Number in bits 0 to 7, offset modulo 2^56 in bits 8 to 63.
+// Number in bits 0 to 7, offset modulo 2^56 in bits 8 to 63. A usize is cast, here and below: it has no From to u64.
+#[tactic(auto, unfolding(crate::specs::Packed::packed_load))]
 fn pack_load(number: u8, offset: usize) -> u64
     ensures { result ≡ packed_load number offset }
 {
-    bits::word8(number) + 256 * (offset as u64 % 72057594037927936)
+    u64::from(number) + 256 * (offset as u64 % 72057594037927936)
 }
 
 // Number in bits 0 to 7, the counts modulo 2^24 in bits 8 to 31 and 32 to 55.
+#[tactic(auto, unfolding(crate::specs::Packed::packed_run))]
 fn pack_run(number: u8, granted: usize, refused: usize) -> u64
     ensures { result ≡ packed_run number granted refused }
 {
-    bits::word8(number)
-        + 256 * (granted as u64 % 16777216)
-        + 4294967296 * (refused as u64 % 16777216)
+    u64::from(number) + 256 * (granted as u64 % 16777216) + 4294967296 * (refused as u64 % 16777216)
 }
 
 // Number in bits 0 to 7, level in bits 8 to 23, the counts modulo 2^8 in bits 24 to 31 and 32 to 39.
+#[tactic(auto, unfolding(crate::specs::Packed::packed_standing))]
 fn pack_standing(number: u8, level: u16, rights: u32, firms: u32) -> u64
     ensures { result ≡ packed_standing number level rights firms }
 {
-    bits::word8(number)
-        + 256 * bits::word16(level)
-        + 16777216 * (rights as u64 % 256)
-        + 4294967296 * (firms as u64 % 256)
+    u64::from(number)
+        + 256 * u64::from(level)
+        + 16777216 * (u64::from(rights) % 256)
+        + 4294967296 * (u64::from(firms) % 256)
 }
 
 // Makes a history all zero, and stores each person's first level: 0, 10, 20, or the number of a refused book.
@@ -58,10 +60,13 @@ pub extern "C" fn kweldabe_blank(book: &[u8], history: &mut [u8], levels: &mut [
         ≡ blanked_by (load_book book.now) (state history.old levels.old)) }
 {
     let given = monitor::load(book);
-    if given.number != numbers::GRANTED {
+    if given.number != GRANTED {
         return given.number;
     }
-    loaded::blank(given.tables, history, levels)
+    let t = GivenTables {
+        tables: given.tables,
+    };
+    number_of(loaded::blank(&t, history, levels))
 }
 
 // Loads a book: its number, and the offset of the end record or the refused one.
@@ -88,10 +93,13 @@ pub extern "C" fn kweldabe_judge(book: &[u8], history: &[u8], levels: &[u8], req
     ensures { result ≡ judge_by (load_book book.now) (state history.now levels.now) request.now }
 {
     let given = monitor::load(book);
-    if given.number != numbers::GRANTED {
+    if given.number != GRANTED {
         return given.number;
     }
-    loaded::judge(given.tables, history, levels, request)
+    let t = GivenTables {
+        tables: given.tables,
+    };
+    number_of(loaded::judge(&t, history, levels, request))
 }
 
 // Judges the request at the front of the bytes; a granted one is recorded, and a granted read or step lowers its person's level.
@@ -107,10 +115,13 @@ pub extern "C" fn kweldabe_put(
         ≡ put_by (load_book book.now) (state history.old levels.old) request.now) }
 {
     let given = monitor::load(book);
-    if given.number != numbers::GRANTED {
+    if given.number != GRANTED {
         return given.number;
     }
-    loaded::put(given.tables, history, levels, request)
+    let t = GivenTables {
+        tables: given.tables,
+    };
+    number_of(loaded::put(&t, history, levels, request))
 }
 
 // Puts the requests of the bytes one after another, and writes one answer byte for each.
@@ -126,15 +137,18 @@ pub extern "C" fn kweldabe_run(
         answers.old result (state history.new levels.new) answers.new }
 {
     let given = monitor::load(book);
-    if given.number != numbers::GRANTED {
+    if given.number != GRANTED {
         return pack_run(given.number, 0, 0);
     }
-    let ran = loaded::run(given.tables, history, levels, requests, answers);
+    let t = GivenTables {
+        tables: given.tables,
+    };
+    let ran = loaded::run(&t, history, levels, requests, answers);
     pack_run(ran.number, ran.granted, ran.refused)
 }
 
-// Puts the requests of the bytes one after another, and raises the count of each request read. The counts are 2,080 numbers, that of firm f,
-// 64 for no firm, and number n at 32 * f + n; other than 2,080 are refused with 18, after 10 and 20.
+// Puts the requests of the bytes one after another, and raises the count of each request read. The counts are 2,080 numbers, that of firm
+// f, 64 for no firm, and number n at 32 * f + n; other than 2,080 are refused with 18, after 10 and 20.
 #[unsafe(no_mangle)]
 pub extern "C" fn kweldabe_tally(
     book: &[u8],
@@ -147,10 +161,13 @@ pub extern "C" fn kweldabe_tally(
         counts.old result (state history.new levels.new) counts.new }
 {
     let given = monitor::load(book);
-    if given.number != numbers::GRANTED {
+    if given.number != GRANTED {
         return pack_run(given.number, 0, 0);
     }
-    let tallied = tallying::tally(given.tables, history, levels, requests, counts);
+    let t = GivenTables {
+        tables: given.tables,
+    };
+    let tallied = tallying::tally(&t, history, levels, requests, counts);
     pack_run(tallied.number, tallied.granted, tallied.refused)
 }
 
@@ -161,22 +178,23 @@ pub extern "C" fn kweldabe_standing(book: &[u8], history: &[u8], levels: &[u8], 
         ≡ standing_packed (standing_by (load_book book.now) (state history.now levels.now) person) }
 {
     let given = monitor::load(book);
-    if given.number != numbers::GRANTED {
+    if given.number != GRANTED {
         return pack_standing(given.number, 0, 0, 0);
     }
-    let found = loaded::standing(given.tables, history, levels, person);
+    let t = GivenTables {
+        tables: given.tables,
+    };
+    let found = loaded::standing(&t, history, levels, person);
     let level = found.level;
     pack_standing(found.number, level.0, found.rights, found.firms)
 }
 
 // Writes the positions of a plan over the first 64 bytes.
 fn put_positions(found: &[u8; 64], positions: &mut [u8])
-    requires { (length found.now ≡ 64) × (64 ≤ length positions.old) }
+    requires { 64 ≤ length positions.old }
     ensures { positions.new ≡ found.now ++ drop 64 positions.old }
 {
-    for k in 0..64 {
-        positions[k] = found[k];
-    }
+    positions[..64].copy_from_slice(found);
 }
 
 // An order of the jobs in which all are granted, four bytes for each job: 0 and its positions, or a number with which no byte changes.
@@ -192,21 +210,26 @@ pub extern "C" fn kweldabe_plan(
         positions.old result positions.new }
 {
     let given = monitor::load(book);
-    if given.number != numbers::GRANTED {
+    if given.number != GRANTED {
         return given.number;
     }
-    let number = loaded::lengths(history, levels);
-    if number != numbers::GRANTED {
-        return number;
+    let t = GivenTables {
+        tables: given.tables,
+    };
+    if history.len() != history::BYTES {
+        return u8::from(Refusal::WrongLength);
+    }
+    if levels.len() != levels::BYTES {
+        return u8::from(Refusal::WrongLevelsLength);
     }
     if positions.len() < 64 {
-        return numbers::TOO_FEW_ANSWERS;
+        return u8::from(Refusal::TooFewAnswers);
     }
-    let plan = planning::plan(given.tables, history, levels, jobs);
-    if plan.number != numbers::GRANTED {
+    let plan = planning::plan(&t, history, levels, jobs);
+    if plan.number != GRANTED {
         return plan.number;
     }
     let found = plan.positions;
     put_positions(&found, positions);
-    numbers::GRANTED
+    GRANTED
 }

@@ -126,6 +126,9 @@ module _ (P : ℕ → ℕ → Type 0) where
       earlier : (k : ℕ) → k < n → P k (get_or (set rows n v) k 0)
       earlier k l = rw (get_or-set_other rows n k v 0 (λ e. let z : ⊥ = omega (arith, e) in z)) (before.at k l)
 
+pub rows_ext : (n : ℕ) {P Q : ℕ → ℕ → Type 0} {rows : List ℕ} → Rows n P rows → ((k v : ℕ) → k < n → P k v → Q k v) → Rows n Q rows
+rows_ext n found says = record { size = found.size; at = λ k l. says k _ l (found.at k l); none = found.none }
+
 -- ---- a set of 64 of which only the first 32 can be members
 
 pub narrow : (p q : ℕ → Bool) → ((k : ℕ) → k < 32 → p k ≡ q k) → ((k : ℕ) → 32 ≤ k → p k ≡ false)

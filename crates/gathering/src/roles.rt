@@ -2,49 +2,50 @@
 // persons of a role are those outside the users of the rights beyond it; turned round, the roles of each person.
 ghost use Rattle.std.specs.Prelude.{◌≡◌, not, ℕ, ◌<◌, eqb, get_or};
 ghost use Rattle.bits.specs.Bits.{bit, mask_below};
-ghost use Rattle.gathering.specs.Users.{RoleRows, HolderRows, Holds, among_sets};
+ghost use Rattle.gathering.specs.Users.{RoleRows, HolderRows, Holds, Rows, among_sets};
 
 use policy::Tables;
 
-// The rights of the 32 roles, and 32 empty rows.
-pub fn role_rows(t: Tables) -> [u64; 64]
-    ensures { RoleRows t 32 result }
+// A row for each of the 32 roles, and 32 empty rows.
+fn rows_by<F: Fn(usize) -> u64>(row: F) -> [u64; 64]
+    requires { (k : ℕ) → k < 32 → F.pre row k }
+    ensures { Rows 32 (F.post row) result }
 {
     let mut rows: [u64; 64] = [0; 64];
     for k in 0..32 {
-        rows[k] = t.roles[k].rights;
+        rows[k] = row(k);
     }
     rows
+}
+
+// The rights of the roles.
+pub fn role_rows(t: &Tables) -> [u64; 64]
+    ensures { RoleRows t.now 32 result }
+{
+    rows_by(|k| t.roles[k].rights)
 }
 
 // All members that are not in a set of 64.
 fn outside(set: u64) -> u64
     ensures { (k : ℕ) → k < 64 → bit result k ≡ not (bit set k) }
 {
-    18446744073709551615 - set
+    !set
 }
 
 // The numbers of the sets that are not empty.
 fn some_in(sets: &[u64; 81]) -> u64
     ensures { result ≡ mask_below 64 (λ x. not (eqb (get_or sets.now x 0) 0)) }
 {
-    let mut numbers: u64 = 0;
-    for x in 0..64 {
-        numbers = bits::with_bit64_if(sets[x] != 0, numbers, x);
-    }
-    numbers
+    bits::set_by(|x| sets[x] != 0)
 }
 
-// The persons of the sets that have these numbers. Each turn takes the lowest number out.
+// The persons of the sets that have these numbers.
 fn among(sets: &[u64; 81], numbers: u64) -> u64
     ensures { (s : ℕ) → bit result s ≡ among_sets sets.now numbers s }
 {
     let mut joined: u64 = 0;
-    let mut rest = numbers;
-    while rest != 0 {
-        let x = bits::lowest64(rest);
-        joined = joined | sets[x];
-        rest = bits::without_lowest64(rest);
+    for x in bits::members(numbers) {
+        joined |= sets[x];
     }
     joined
 }
@@ -62,10 +63,6 @@ fn holders_of(users: &[u64; 81], used: u64, rights: u64) -> u64
 pub fn holder_rows(roles: &[u64; 64], users: &[u64; 81]) -> [u64; 64]
     ensures { HolderRows users.now roles.now 32 result }
 {
-    let mut rows: [u64; 64] = [0; 64];
     let used = some_in(users);
-    for k in 0..32 {
-        rows[k] = holders_of(users, used, roles[k]);
-    }
-    rows
+    rows_by(|k| holders_of(users, used, roles[k]))
 }

@@ -1,14 +1,14 @@
 -- A stage takes each bit from one row and one column, and six stages take bit j of row i from row j and column i. That each width's mask
 -- has the columns it should, and where a bit comes from after all stages, is computed for every row and column.
 use Prim.Native.Nat.{ℕ, ◌+◌, ◌-◌, ◌*◌, ◌/◌, ◌%◌, ◌^◌, ◌<◌}
-use native.Mathlib.Nat.{mul_comm, mod-lt, lt_of_le_of_lt, lt_of_lt_of_le}
+use native.Mathlib.Nat.{mul_comm, one-mul, mod-lt, lt_of_le_of_lt, lt_of_lt_of_le}
 use native.Mathlib.Omega.{arith}
 use mathlib.Core.Path.{◌≡◌, refl, sym, ap, ap₂, ◌∙◌}
 use mathlib.Core.Logic.{◌⊎◌, inl, inr, ⊎_elim}
 use mathlib.Core.Bool.{Bool, true, false, cond, not, ◌&&◌, ◌||◌, and-true, and-false, false≢true}
 use mathlib.Core.List.{List, [], ◌∷◌}
 use lib.Bits.{bit_and, bit_or, and_le_r, or_lt}
-use lib.Dec.{eqb, ltb, leb}
+use lib.Dec.{eqb, ltb, leb, lit<}
 use lib.ListN.{get_or}
 use lib.Pow.{pow_mono, pow_pos, shl_exact, shr-shr}
 use borrow.Author.Tests.{ltb-true, le-ltb, leb-true, eqb-true}
@@ -19,7 +19,7 @@ use Rattle.bits.proofs.Booleans.{and_left, and_right, decide}
 use Rattle.bits.proofs.Bounds.{all_at}
 use Rattle.bits.proofs.Masks.{mask_lt, mask_of_bits, mask_ext, bit_mask_below}
 use Rattle.recorded.specs.Gathering.{FirstAre}
-use Rattle.grouping.specs.Turning.{merged, has_evens, evens, row_from, column_from, stage_row, turned_row}
+use Rattle.grouping.specs.Turning.{IsStage, low_columns, merged, has_evens, evens, row_from, column_from, stage_row, turned_row}
 
 -- ---- merging two rows
 
@@ -74,7 +74,7 @@ module _ (w low x y : ℕ) (narrow : w < 64) (ok : evens w low ≡ true) where
       let has = all_at 64 (has_evens w low) (and_right (ltb low (2 ^ (64 - w))) _ ok) j l in
       ⊎_elim (λ d. merged_even j d has ∙ rw d) (λ d. merged_odd j d has ∙ rw d) (decide (eqb (j / w % 2) 0))
 
-  pub merge_is : bit_or (bit_and x low) ((bit_and y low * 2 ^ w) % 2 ^ 64) ≡ merged w x y
+  merge_is : bit_or (bit_and x low) ((bit_and y low * 2 ^ w) % 2 ^ 64) ≡ merged w x y
   unfolding merged
   merge_is =
       let up : (bit_and y low * 2 ^ w) % 2 ^ 64 ≡ bit_and y low * 2 ^ w =
@@ -87,6 +87,15 @@ module _ (w low x y : ℕ) (narrow : w < 64) (ok : evens w low ≡ true) where
       (ap (λ (n : ℕ). bit n j) up ∙ bit_shifted_up (bit_and y low) w j
       ∙ ap (λ (b : Bool). cond (ltb j w) false b) (bit_and_lem y low (j - w)))
       ∙ merged_bit j l)
+
+-- the same, with the mask as the code finds it
+pub merge_by : (w x y : ℕ) → IsStage w
+    → (let low = 18446744073709551615 / ((1 * 2 ^ w) % 2 ^ 64 + 1) in bit_or (bit_and x low) ((bit_and y low * 2 ^ w) % 2 ^ 64))
+    ≡ merged w x y
+merge_by w x y ok =
+    let power : (1 * 2 ^ w) % 2 ^ 64 ≡ 2 ^ w = shl_exact 1 w 64 (lit< tt) (omega arith) ∙ one-mul (2 ^ w) in
+    ap (λ (n : ℕ). let low = 18446744073709551615 / (n + 1) in bit_or (bit_and x low) ((bit_and y low * 2 ^ w) % 2 ^ 64)) power
+    ∙ merge_is w (low_columns w) x y (omega arith) ok.columns
 
 -- ---- the two rows that a stage makes of two
 
@@ -175,26 +184,26 @@ turned_all {a} {b} (more last before) =
 
 -- ---- the masks of the six widths
 
-pub evens_32 : evens 32 4294967295 ≡ true
+pub stage_32 : IsStage 32
 unfolding evens has_evens all_below bit
-evens_32 = refl
+stage_32 = record { narrow = lit< tt; columns = refl }
 
-pub evens_16 : evens 16 281470681808895 ≡ true
+pub stage_16 : IsStage 16
 unfolding evens has_evens all_below bit
-evens_16 = refl
+stage_16 = record { narrow = lit< tt; columns = refl }
 
-pub evens_8 : evens 8 71777214294589695 ≡ true
+pub stage_8 : IsStage 8
 unfolding evens has_evens all_below bit
-evens_8 = refl
+stage_8 = record { narrow = lit< tt; columns = refl }
 
-pub evens_4 : evens 4 1085102592571150095 ≡ true
+pub stage_4 : IsStage 4
 unfolding evens has_evens all_below bit
-evens_4 = refl
+stage_4 = record { narrow = lit< tt; columns = refl }
 
-pub evens_2 : evens 2 3689348814741910323 ≡ true
+pub stage_2 : IsStage 2
 unfolding evens has_evens all_below bit
-evens_2 = refl
+stage_2 = record { narrow = lit< tt; columns = refl }
 
-pub evens_1 : evens 1 6148914691236517205 ≡ true
+pub stage_1 : IsStage 1
 unfolding evens has_evens all_below bit
-evens_1 = refl
+stage_1 = record { narrow = lit< tt; columns = refl }

@@ -1,6 +1,6 @@
 -- Turning 64 rows of 64 bits round, in six stages: each stage exchanges one digit of a row's number with one digit of a column's. A stage
 -- merges row i and row 32 + i into the rows 2 * i and 2 * i + 1; its width is the power of two whose digit of the column's number it takes.
-use Rattle.std.specs.Prelude.{ℕ, ◌+◌, ◌-◌, ◌*◌, ◌/◌, ◌%◌, ◌^◌, Bool, cond, not, ◌&&◌, ◌||◌, List, eqb, ltb, leb, get_or}
+use Rattle.std.specs.Prelude.{ℕ, ◌+◌, ◌-◌, ◌*◌, ◌/◌, ◌%◌, ◌^◌, ◌<◌, ◌≡◌, Bool, true, cond, not, ◌&&◌, ◌||◌, List, eqb, ltb, leb, get_or}
 use Rattle.bits.specs.Bits.{bit, mask_below}
 use Rattle.bits.specs.Bounded.{all_below}
 
@@ -17,6 +17,15 @@ has_evens width low j =
 
 unfoldable pub evens : ℕ → ℕ → Bool
 evens width low = ltb low (2 ^ (64 - width)) && all_below 64 (has_evens width low)
+
+-- as many ones as the width says, then as many zeros, and so on, in 64 bits
+abbrev pub low_columns : ℕ → ℕ
+low_columns width = 18446744073709551615 / (2 ^ width + 1)
+
+-- a stage's width: these are the columns whose digit is 0
+pub record IsStage (width : ℕ) : Type 0 where
+  pub narrow : width < 64
+  pub columns : evens width (low_columns width) ≡ true
 
 -- the row and the column from which a stage takes the bit of a row and a column
 unfoldable pub row_from : ℕ → ℕ → ℕ → ℕ

@@ -1,33 +1,32 @@
 // Words of persons, found in a history's bytes: for each folder those who read it or wrote in it, and those who touched it at all; for
 // starts those who made one; for each step those who applied it. A history has 128 bits for each person and kind of access, so the words
 // of the persons are turned round to be words of the folders; the bits of steps stand by folder already.
-ghost use Rattle.std.specs.Prelude.{◌≡◌, ◌+◌, ◌*◌, ◌%◌, ◌≤◌, ◌<◌, length};
+ghost use Rattle.std.specs.Prelude.{◌≡◌, ◌+◌, ◌*◌, ◌%◌, ◌≤◌, ◌<◌};
 ghost use Rattle.std.specs.Int.Bits.{bit_or};
 ghost use Rattle.bits.specs.Bits.{mask_below};
-ghost use Rattle.policy.specs.History.{history_bytes, bit_at};
+ghost use Rattle.policy.specs.History.{bit_at};
 ghost use Rattle.history.specs.Words.{word_at};
 ghost use Rattle.recorded.specs.Gathering.{FirstAre};
 ghost use Rattle.recorded.specs.Recorded.{started, touched_at};
-ghost use Rattle.grouping.specs.Adding.{Added, GroupsFit, applied_to, applied_in, recorded_in};
+ghost use Rattle.grouping.specs.Adding.{Added, applied_to, applied_in, recorded_in};
 
-use crate::{groups, turning};
+use crate::groups::{self, Groups};
+use crate::turning;
+use history::History;
 use recorded::steps;
+use std::array;
 
 // The word of each person from byte `first` on, 16 bytes apart.
-fn person_words(h: &[u8], first: usize) -> [u64; 64]
-    requires { (length h.now ≡ history_bytes) × (first ≤ 2048) }
+fn person_words(h: &History, first: usize) -> [u64; 64]
+    requires { first ≤ 2048 }
     ensures { FirstAre 64 64 (λ s. word_at h.now (first + 16 * s)) result }
 {
-    let mut all: [u64; 64] = [0; 64];
-    for s in 0..64 {
-        all[s] = history::word_at(h, first + 16 * s);
-    }
-    all
+    array::from_fn(|s| history::word_at(h, first + 16 * s))
 }
 
 // The persons of each of the 64 folders whose bits stand from byte `first` on.
-fn by_folder(h: &[u8], first: usize) -> [u64; 64]
-    requires { (length h.now ≡ history_bytes) × (first ≤ 2048) }
+fn by_folder(h: &History, first: usize) -> [u64; 64]
+    requires { first ≤ 2048 }
     ensures { FirstAre 64 64 (λ i. mask_below 64 (λ s. bit_at h.now (8 * first + 128 * s + i))) result }
 {
     let rows = person_words(h, first);
@@ -36,14 +35,8 @@ fn by_folder(h: &[u8], first: usize) -> [u64; 64]
 
 // Adds to the set of each group, with what is above, the persons who have a bit for one of its folders, where the bits stand from byte
 // `first` on.
-pub fn add_recorded(
-    h: &[u8],
-    first: usize,
-    groups: &[usize; 128],
-    above: usize,
-    sets: &mut [u64; 81],
-)
-    requires { (length sets.old ≡ 81) × (length h.now ≡ history_bytes) × GroupsFit groups.now × (first ≤ 1024) × (above ≤ 16) }
+pub fn add_recorded(h: &History, first: usize, groups: &Groups, above: usize, sets: &mut [u64; 81])
+    requires { (first ≤ 1024) × (above ≤ 16) }
     ensures { Added (recorded_in groups.now above h.now (8 * first)) sets.old sets.new }
 {
     let low = by_folder(h, first);
@@ -53,60 +46,48 @@ pub fn add_recorded(
 }
 
 // The folders, of 64, that each person read or wrote in.
-fn access_words(h: &[u8], first: usize) -> [u64; 64]
-    requires { (length h.now ≡ history_bytes) × (first ≤ 1024) }
+fn access_words(h: &History, first: usize) -> [u64; 64]
+    requires { first ≤ 1024 }
     ensures { FirstAre 64 64 (λ s. bit_or (word_at h.now (first + 16 * s)) (word_at h.now (1024 + first + 16 * s))) result }
 {
-    let mut all: [u64; 64] = [0; 64];
-    for s in 0..64 {
-        all[s] = history::word_at(h, first + 16 * s) | history::word_at(h, 1024 + first + 16 * s);
-    }
-    all
+    array::from_fn(|s| {
+        history::word_at(h, first + 16 * s) | history::word_at(h, 1024 + first + 16 * s)
+    })
 }
 
 // The persons who read each of the 64 folders from `first` on, wrote in it or stepped on it.
-pub fn touchers(h: &[u8], first: usize) -> [u64; 64]
-    requires { (length h.now ≡ history_bytes) × (first % 8 ≡ 0) × (first + 64 ≤ 128) }
+pub fn touchers(h: &History, first: usize) -> [u64; 64]
+    requires { (first % 8 ≡ 0) × (first + 64 ≤ 128) }
     ensures { FirstAre 64 64 (λ i. mask_below 64 (λ s. touched_at h.now s (first + i))) result }
 {
     let rows = access_words(h, first >> 3);
     let accessed = turning::turn(&rows);
-    let mut all: [u64; 64] = [0; 64];
-    for i in 0..64 {
-        all[i] = accessed[i] | steps::steppers(h, first + i);
-    }
-    all
+    array::from_fn(|i| accessed[i] | steps::steppers(h, first + i))
 }
 
 // The persons who started one of a set of persons.
-pub fn starters(h: &[u8], persons: u64) -> u64
-    requires { length h.now ≡ history_bytes }
+pub fn starters(h: &History, persons: u64) -> u64
     ensures { result ≡ mask_below 64 (started persons h.now) }
 {
-    let mut set: u64 = 0;
-    for s in 0..64 {
-        set = bits::with_bit64_if(history::word_at(h, 2048 + 8 * s) & persons != 0, set, s);
-    }
-    set
+    bits::set_by(|s| history::word_at(h, 2048 + 8 * s) & persons != 0)
 }
 
 // Adds to the set of each step's right the persons who applied the step to folder o.
-fn add_steps_on(h: &[u8], o: usize, sets: &mut [u64; 81])
-    requires { (length sets.old ≡ 81) × (length h.now ≡ history_bytes) × (o < 128) }
+fn add_steps_on(h: &History, o: usize, sets: &mut [u64; 81])
+    requires { o < 128 }
     ensures { Added (applied_to h.now o 16) sets.old sets.new }
 {
     for p in 0..16 {
-        sets[48 + p] = sets[48 + p] | history::word_at(h, 2560 + 128 * o + 8 * p);
+        sets[48 + p] |= history::word_at(h, 2560 + 128 * o + 8 * p);
     }
 }
 
 // Adds to the set of each step's right the persons who applied the step to a folder that has a group.
-pub fn add_steps(h: &[u8], groups: &[usize; 128], sets: &mut [u64; 81])
-    requires { (length sets.old ≡ 81) × (length h.now ≡ history_bytes) }
+pub fn add_steps(h: &History, groups: &Groups, sets: &mut [u64; 81])
     ensures { Added (applied_in groups.now h.now 128) sets.old sets.new }
 {
     for o in 0..128 {
-        if groups[o] < 64 {
+        if groups.of(o) < 64 {
             add_steps_on(h, o, sets);
         }
     }

@@ -1,13 +1,14 @@
 -- The 64 bits of eight bytes from a place on are the 64 bits that a history has there: of two numbers of 2 ^ j bytes, one above the other,
 -- the bits stand one after another. By induction on j.
-use Prim.Native.Nat.{ℕ, zero, suc, ◌+◌, ◌-◌, ◌*◌, ◌/◌, ◌%◌, ◌^◌, ◌<◌}
+use Prim.Native.Nat.{ℕ, zero, suc, ◌+◌, ◌-◌, ◌*◌, ◌/◌, ◌%◌, ◌^◌, ◌≤◌, ◌<◌}
 use native.Mathlib.Nat.{pow-suc}
 use native.Mathlib.Omega.{arith}
 use mathlib.Core.Path.{◌≡◌, ap, ap₂, ◌∙◌}
 use mathlib.Core.Logic.{⊎_elim}
 use mathlib.Core.List.{List}
 use lib.Dec.{ltb}
-use lib.ListN.{get_or}
+use lib.ListN.{length, get_or, take, drop}
+use Rattle.std.proofs.lemmas.List.{get_or-take, get_or-drop}
 use borrow.Author.Tests.{ltb-true, ltb-false}
 use Rattle.bits.specs.Bits.{bit, mask_below}
 use Rattle.bits.proofs.Booleans.{decide}
@@ -16,11 +17,39 @@ use Rattle.bits.proofs.Masks.{mask_of_bits}
 use Rattle.policy.specs.History.{bit_at}
 use Rattle.history.specs.Words.{bytes_at, word_at}
 
--- the number of some bytes, of the numbers of their halves
-pub bytes_joined : (j : ℕ) (h : List ℕ) (at : ℕ) {low high joined : ℕ} → low ≡ bytes_at j h at → high ≡ bytes_at j h (at + 2 ^ j)
-    → joined ≡ low + 2 ^ (8 * 2 ^ j) * high → joined ≡ bytes_at (suc j) h at
-unfolding bytes_at
-bytes_joined j h at first second e = e ∙ rw (first, second)
+-- the number of eight bytes that are in order those from the place on, the first lowest
+word_of : (h chunk : List ℕ) (at : ℕ) {x : ℕ} → ((i j : ℕ) → i < 8 → j ≡ at + i → get_or chunk i 0 ≡ get_or h j 0)
+    → x
+    ≡ get_or chunk 0 0 + get_or chunk 1 0 * 256 + get_or chunk 2 0 * 65536 + get_or chunk 3 0 * 16777216 + get_or chunk 4 0 * 4294967296
+    + get_or chunk 5 0 * 1099511627776
+    + get_or chunk 6 0 * 281474976710656
+    + get_or chunk 7 0 * 72057594037927936
+    → x ≡ word_at h at
+unfolding word_at bytes_at
+word_of h chunk at each e =
+    let b0 = each 0 at (omega arith) (omega arith) in
+    let b1 = each 1 (at + 1) (omega arith) (omega arith) in
+    let b2 = each 2 (at + 2) (omega arith) (omega arith) in
+    let b3 = each 3 (at + 2 + 1) (omega arith) (omega arith) in
+    let b4 = each 4 (at + 4) (omega arith) (omega arith) in
+    let b5 = each 5 (at + 4 + 1) (omega arith) (omega arith) in
+    let b6 = each 6 (at + 4 + 2) (omega arith) (omega arith) in
+    let b7 = each 7 (at + 4 + 2 + 1) (omega arith) (omega arith) in
+    omega (arith, e, b0, b1, b2, b3, b4, b5, b6, b7)
+
+-- the same of the first eight bytes of what follows the place
+pub word_of_chunk : (h chunk : List ℕ) (at : ℕ) {x : ℕ} → at + 8 ≤ length h → chunk ≡ take 8 (take (length h - at) (drop at h))
+    → x
+    ≡ get_or chunk 0 0 + get_or chunk 1 0 * 256 + get_or chunk 2 0 * 65536 + get_or chunk 3 0 * 16777216 + get_or chunk 4 0 * 4294967296
+    + get_or chunk 5 0 * 1099511627776
+    + get_or chunk 6 0 * 281474976710656
+    + get_or chunk 7 0 * 72057594037927936
+    → x ≡ word_at h at
+word_of_chunk h chunk at there same =
+    word_of h chunk at (λ i j l place.
+    rw (same, place)
+    (get_or-take 8 (take (length h - at) (drop at h)) i 0 l ∙ get_or-take (length h - at) (drop at h) i 0 (omega arith)
+    ∙ get_or-drop at h i 0))
 
 module _ (h : List ℕ) (small : (i : ℕ) → get_or h i 0 < 256) where
   bytes_lt : (j at : ℕ) → bytes_at j h at < 2 ^ (8 * 2 ^ j)

@@ -16,6 +16,7 @@ pub fn fill<R: Read>(input: &mut R, buf: &mut [u8]) -> io::Result<usize>
     ensures end { IfOk result (λ n. n < length buf.new → IsAtEnd (R.remaining input.new)) }
 {
     let mut done = 0;
+    // No `read_exact` or `read_to_end`: after an error they say nothing of the bytes that were read (clause `failed`).
     while done < buf.len() {
         let n = input.read(&mut buf[done..])?;
         if n == 0 {

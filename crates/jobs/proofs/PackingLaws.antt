@@ -8,7 +8,9 @@ use mathlib.Core.Bool.{Bool, cond}
 use mathlib.Core.List.{List, [], ◌∷◌, ◌++◌, append_assoc}
 use lib.Dec.{ltb}
 use lib.ListN.{length, set, take, replicate, get_or, length-append}
-use lib.Seq.{take_all, take-length, take-take, take-suc, length-take-le}
+use borrow.Rule.Slice.PartMut.{put_mid}
+use lib.Seq.{take_all, take-length, take-take, take-suc, length-take-le, paste, paste-zero, paste-suc}
+use Rattle.std.proofs.lemmas.Slice.{put_mid-paste}
 use borrow.Author.Tests.{lt-ltb, le-ltb, ltb-true, ltb-false}
 use Rattle.bits.proofs.Booleans.{decide}
 use Rattle.policy.specs.declared.Job.{Job}
@@ -26,6 +28,33 @@ stored_in p i j l = sym (ap (λ (z : Bool). cond z (written p i j) p) (lt-ltb i 
 pub stored_past : (p : Packed) (i : ℕ) (j : Job) → 65 ≤ i → p ≡ stored p i j
 unfolding stored
 stored_past p i j l = sym (ap (λ (z : Bool). cond z (written p i j) p) (le-ltb i 65 l))
+
+-- four bytes that take the place of four are four stores
+four_stored : (bytes : List ℕ) (at a b c d : ℕ) → at + 4 ≤ length bytes
+    → put_mid at (at + 4 - at) bytes (a ∷ b ∷ c ∷ d ∷ []) ≡ set (set (set (set bytes at a) (at + 1) b) (at + 2) c) (at + 3) d
+four_stored bytes at a b c d room =
+    let four : List ℕ = a ∷ b ∷ c ∷ d ∷ [] in
+    let here : at ≡ at + 0 = omega arith in
+    let one : set bytes at a ≡ paste bytes at four 1 =
+    ap (λ (n : ℕ). set bytes n a) here ∙ ap (λ (l : List ℕ). set l (at + 0) a) (paste-zero bytes at four)
+    ∙ paste-suc bytes at four 0 0 (omega arith) (omega arith) in
+    let two : set (set bytes at a) (at + 1) b ≡ paste bytes at four 2 =
+    ap (λ (l : List ℕ). set l (at + 1) b) one ∙ paste-suc bytes at four 1 0 (omega arith) (omega arith) in
+    let three : set (set (set bytes at a) (at + 1) b) (at + 2) c ≡ paste bytes at four 3 =
+    ap (λ (l : List ℕ). set l (at + 2) c) two ∙ paste-suc bytes at four 2 0 (omega arith) (omega arith) in
+    put_mid-paste at (at + 4 - at) bytes four four 4 refl (omega arith) refl
+    ∙ sym (ap (λ (l : List ℕ). set l (at + 3) d) three ∙ paste-suc bytes at four 3 0 (omega arith) (omega arith))
+
+pub four_written : (p : Packed) (i : ℕ) (j : Job) → 4 * i + 4 ≤ length p.bytes
+    → record {
+      len = p.len;
+      bytes = put_mid (4 * i) (4 * i + 4 - 4 * i) p.bytes (j.action ∷ j.person ∷ j.target ∷ j.step ∷ []);
+    }
+    ≡ written p i j
+unfolding written
+four_written p i j room =
+    ap (λ (bytes : List ℕ). record { len = p.len; bytes = bytes })
+    (four_stored p.bytes (4 * i) j.action j.person j.target j.step room)
 
 -- ---- the bytes of jobs
 

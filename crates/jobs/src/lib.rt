@@ -7,6 +7,7 @@ ghost use Rattle.jobs.specs.Packing.{none_stored, stored, packed_jobs};
 use policy::Job;
 
 // The length of a list, and the bytes of its first 65 jobs, then zeros. 65 jobs are enough to tell that there are more than 64.
+// The length stays beside the bytes: `monitor::plan_packed` takes both, and no slice of the heap can hold them.
 #[derive(Clone, Copy)]
 pub struct Packed {
     pub len: usize,
@@ -18,7 +19,7 @@ fn start(len: usize) -> Packed
     ensures { result ≡ none_stored len }
 {
     Packed {
-        len: len,
+        len,
         bytes: [0; 260],
     }
 }
@@ -30,10 +31,8 @@ fn store(p: Packed, i: usize, job: Job) -> Packed
 {
     if i < 65 {
         let mut q = p;
-        q.bytes[4 * i] = job.action;
-        q.bytes[4 * i + 1] = job.person;
-        q.bytes[4 * i + 2] = job.target;
-        q.bytes[4 * i + 3] = job.step;
+        let four = [job.action, job.person, job.target, job.step];
+        q.bytes[4 * i..4 * i + 4].copy_from_slice(&four);
         return q;
     }
     p
@@ -44,10 +43,8 @@ pub fn pack(jobs: &[Job]) -> Packed
     ensures { result ≡ packed_jobs jobs.now }
 {
     let mut p = start(jobs.len());
-    let mut i: usize = 0;
-    while i < jobs.len() {
-        p = store(p, i, jobs[i]);
-        i = i + 1;
+    for (i, job) in jobs.iter().enumerate() {
+        p = store(p, i, *job);
     }
     p
 }

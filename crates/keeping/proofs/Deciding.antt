@@ -1,7 +1,7 @@
 -- The first check that fails, by what is kept, has the number that the definitions give: what is kept says of each rule in force what its
 -- definition says, the marks say whether the parties are declared, and the ladder's number is that of the first test that fails, which is
 -- seen of every combination of tests.
-use Prim.Native.Nat.{ℕ, ◌-◌, ◌%◌}
+use Prim.Native.Nat.{ℕ, ◌%◌}
 use mathlib.Core.Path.{◌≡◌, refl, ap, ◌∙◌}
 use mathlib.Core.Logic.{⊎_elim}
 use mathlib.Core.Bool.{Bool, true, false, cond, not, ◌&&◌, ◌||◌}

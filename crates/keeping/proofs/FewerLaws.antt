@@ -3,15 +3,16 @@
 -- the bits are those of the roles.
 use Prim.Native.Nat.{ℕ, ◌/◌, ◌%◌, ◌^◌}
 use mathlib.Core.Path.{◌≡◌, refl, sym, ap, ap₂, ◌∙◌}
-use mathlib.Core.Logic.{⊎_elim}
-use mathlib.Core.Bool.{Bool, true, false, cond, ◌&&◌}
-use lib.Bits.{bit_and, bit_or, or_zero_r}
-use borrow.Author.Tests.{eq-eqb}
+use mathlib.Core.Logic.{⊎_elim, ◌≢◌}
+use mathlib.Core.Bool.{Bool, true, false, cond, not, ◌&&◌}
+use lib.Dec.{eqb}
+use lib.Bits.{bit_and}
+use borrow.Author.Tests.{eq-eqb, eqb-true}
 use Rattle.bits.specs.Bits.{bit}
 use Rattle.bits.proofs.Booleans.{decide, false_elim}
 use Rattle.bits.proofs.BitLaws.{bit_and_lem, bit_zero}
-use Rattle.policy.specs.Tables.{wall_rule, roles_rule, pipeline_rule}
-use Rattle.branchfree.specs.Failing.{others_of}
+use Rattle.policy.specs.Request.{Request}
+use Rattle.branchfree.specs.Failing.{Failing, Enough, failing_of}
 
 -- a mask with none of some rules, of which rule k is one
 pub not_among : (mask some k : ℕ) → bit_and mask some ≡ 0 → some / 2 ^ k % 2 ≡ 1 → bit mask k ≡ false
@@ -25,16 +26,29 @@ not_among mask some k none set =
     (λ e. e)
     (decide (bit mask k))
 
-pub without_roles : (mask : ℕ) → bit mask roles_rule ≡ false → (a b c : Bool) {wall pipeline : ℕ} → wall ≡ cond a 2 0
-    → pipeline ≡ cond c 32 0 → bit_or wall pipeline ≡ others_of a (bit mask roles_rule && b) c
-unfolding others_of
-without_roles mask roles a b c e f = rw roles (ap₂ bit_or (e ∙ sym (or_zero_r (cond a 2 0))) f)
+-- what is told where a rule is asked about
+pub asked_about : (asked a b : ℕ) → asked ≢ 0 → cond (not (eqb asked 0)) a b ≡ a
+asked_about asked a b some = ⊎_elim (λ e. absurd (some (eqb-true asked 0 e))) (λ e. rw e) (decide (eqb asked 0))
 
-pub roles_alone : (mask : ℕ) → bit mask wall_rule ≡ false → bit mask pipeline_rule ≡ false → (a b c : Bool) {roles : ℕ} → roles ≡ cond b 16 0
-    → roles ≡ others_of (bit mask wall_rule && a) b (bit mask pipeline_rule && c)
-unfolding others_of
-roles_alone mask wall pipeline a b c e = rw (wall, pipeline) (e ∙ alone b)
-  where
-    alone : (b : Bool) → ◌≡◌ {A = ℕ} (cond b 16 0) (bit_or (bit_or 0 (cond b 16 0)) 0)
-    alone true = refl
-    alone false = refl
+-- a test of a rule that is not in force is of no use, so it may be made on what is told where the rule is not asked about
+only_asked : (asked force : Bool) {told own : Bool} → (asked && force) ≡ force → (asked ≡ true → told ≡ own) → force && told ≡ force && own
+only_asked true force enough same = ap (λ (b : Bool). force && b) (same refl)
+only_asked false force {told} {own} enough same = ap (λ (b : Bool). b && told) (sym enough) ∙ ap (λ (b : Bool). b && own) enough
+
+same_failing : {wall wall' roles roles' pipeline pipeline' : Bool} (unknown rank compartment : Bool) → wall ≡ wall' → roles ≡ roles'
+    → pipeline ≡ pipeline'
+    → ◌≡◌ {A = Failing}
+    (record { unknown = unknown; wall = wall; rank = rank; compartment = compartment; roles = roles; pipeline = pipeline })
+    (record { unknown = unknown; wall = wall'; rank = rank; compartment = compartment; roles = roles'; pipeline = pipeline' })
+same_failing unknown rank compartment a b c = rw (a, b, c)
+
+pub fewer_failing : (wall roles pipeline : Bool) (q : Request) (mask a b : ℕ) (m n c : Bool) (counted class firm holding holders next p : ℕ)
+    → Enough wall roles pipeline mask
+    → failing_of q mask a b m n c (cond wall counted 0) class firm (cond roles holding 0) (cond roles holders 0) (cond pipeline next 0) p
+    ≡ failing_of q mask a b m n c counted class firm holding holders next p
+unfolding failing_of
+fewer_failing wall roles pipeline q mask a b m n c counted class firm holding holders next p enough =
+    same_failing _ _ _
+    (only_asked wall _ enough.walls (λ e. rw e))
+    (only_asked roles _ enough.rights (λ e. rw e))
+    (only_asked pipeline _ enough.steps (λ e. rw e))

@@ -31,7 +31,8 @@ use Rattle.rules.specs.Kept.{holds_right, HasFirms, HasHolding, HasDone, HasNext
 use Rattle.levels.specs.Sets.{LevelSets}
 use Rattle.levels.proofs.SetLaws.{sets_met}
 use Rattle.branchfree.specs.Kinds.{place_of, target_of, lowers, is_access, is_step}
-use Rattle.keeping.specs.Keeping.{Kept, kept, Keeps}
+use Rattle.keeping.specs.declared.Kept.{Kept}
+use Rattle.keeping.specs.Keeping.{kept, Keeps}
 use Rattle.keeping.proofs.KeptLaws.{holding_more}
 use Rattle.keeping.proofs.GrantLaws.{firms_more, done_same, next_same, done_more, next_more}
 

@@ -20,7 +20,7 @@ use Rattle.policy.specs.declared.Tables.{Tables}
 use Rattle.policy.specs.Checks.{ladder}
 use Rattle.policy.specs.Tables.{folder_at, person_at, in_force, class_of, wall_rule, roles_rule, pipeline_rule}
 use Rattle.policy.specs.History.{history_bytes, with_bit_at}
-use Rattle.policy.specs.Request.{Request, subject, index, has_place, set_of, recorded}
+use Rattle.policy.specs.Request.{Request, subject, has_place, set_of, recorded}
 use Rattle.policy.specs.Levels.{level_at, lowered}
 use Rattle.policy.specs.Rules.{declared, right}
 use Rattle.policy.specs.Calls.{state, request_checks, recorded_if}
@@ -28,7 +28,6 @@ use Rattle.policy.specs.OneMore.{folder_of, step_of}
 use Rattle.policy.proofs.Requests.{declared_place, folder_below}
 use Rattle.policy.proofs.GivenEntries.{folder_kind}
 use Rattle.pipeline.specs.Steps.{pipeline_in}
-use Rattle.request.specs.declared.Parsed.{Parsed}
 use Rattle.rules.specs.Sets.{firms_of}
 use Rattle.rules.specs.Kept.{holds_right}
 use Rattle.level.specs.Sets.{level_set}
@@ -37,7 +36,8 @@ use Rattle.branchfree.specs.declared.first.Asked.{Asked}
 use Rattle.branchfree.specs.declared.kinds.Placed.{Placed}
 use Rattle.branchfree.specs.Kinds.{placed_by, right_by, asked_by, lowers, is_access, is_step, Exact, PlacedAs, RowOf}
 use Rattle.branchfree.specs.Failing.{Failing, first_failing, number_at, grant_at, failing_of}
-use Rattle.keeping.specs.Keeping.{Kept, kept, Keeps, Serves, PutKept, Changed}
+use Rattle.keeping.specs.declared.Kept.{Kept}
+use Rattle.keeping.specs.Keeping.{kept, Keeps, Serves, PutKept, Changed}
 use Rattle.branchfree.proofs.KindLaws.{placed_as, row_of_lem, right_small, right_is, folder_number}
 use Rattle.branchfree.proofs.FailingLaws.{granted_at}
 use Rattle.keeping.proofs.KeptLaws.{roles_kept}
@@ -51,16 +51,6 @@ use Rattle.keeping.proofs.PutLaws.{
   granted_keeps,
   kept_after as own-kept,
 }
-
--- the numbers of a request that was placed are within bounds
-pub placed_at : (r : Parsed) {x : Placed} → 15 < r.kind → r.kind < 20 → r.step < 256 → x ≡ placed_by r.kind r.person r.target r.step
-    → PlacedAs (asked_by r.kind r.person r.target r.step) x
-placed_at r low high small e = rw e (placed_as r.kind r.person r.target r.step low high small)
-
--- the right that a request uses is one of 64
-pub right_in : (r : Parsed) (f : ℕ) {x : Placed} {n : ℕ} → 15 < r.kind → r.kind < 20
-    → x ≡ placed_by r.kind r.person r.target r.step → n ≡ right_by r.kind f x.step → n < 64
-right_in r f low high e is = rw (is, e) (right_small r.kind r.person r.target r.step f low high)
 
 -- what is kept, part by part
 parts : {firms firms' holding holding' done done' next next' sets sets' : List ℕ} → firms ≡ firms' → holding ≡ holding'
@@ -104,7 +94,7 @@ module _ (t : Tables) (h l : List ℕ) (size : length h ≡ history_bytes) (mask
 
     rights : in_force t roles_rule ≡ true → get_or holders (right_by kind e.kind x.step) 0 ≡ mask_below 32 (holds_right t (right t q))
     rights on =
-        serves.rights.at on _ (lt-ltb _ 64 (right_small kind s o p e.kind low high))
+        serves.rights.at on _ (lt-ltb _ 64 (right_small kind e.kind x.step low high placed.step_below))
         ∙ ap (λ (n : ℕ). mask_below 32 (holds_right t n)) right_known
 
   -- what the request is judged by

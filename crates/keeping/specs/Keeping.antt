@@ -1,6 +1,6 @@
 -- What a run keeps: the sets that the rules in force ask about, each as the set of the requests granted so far gives it, and every level as
 -- a set; and a put by it, after which it keeps the same of the set with the granted request.
-use Rattle.std.specs.Prelude.{ℕ, ◌%◌, ◌<◌, ◌≡◌, Bool, true, cond, ◌&&◌, List, eqb, length, get_or, set}
+use Rattle.std.specs.Prelude.{ℕ, ◌%◌, ◌≡◌, Bool, true, cond, ◌&&◌, List, eqb, get_or, set}
 use Rattle.std.proofs.Math.Option.{some}
 use Rattle.std.specs.Int.Bits.{bit_and}
 use Rattle.bits.specs.Bits.{bit, with_bit, mask_below}
@@ -14,23 +14,17 @@ use Rattle.policy.specs.Request.{Request, set_of}
 use Rattle.policy.specs.Levels.{level_at}
 use Rattle.policy.specs.Calls.{State, state, request_checks, recorded_if}
 use Rattle.levels.specs.Sets.{LevelSets}
-use Rattle.rules.specs.Sets.{firms_of}
+use Rattle.rules.specs.Sets.{firms_of, HasClasses}
 use Rattle.request.specs.declared.Parsed.{Parsed}
 use Rattle.pipeline.specs.Steps.{pipeline_in}
 use Rattle.branchfree.specs.declared.first.Asked.{Asked}
 use Rattle.branchfree.specs.declared.kinds.Placed.{Placed}
-use Rattle.branchfree.specs.Kinds.{asked_by, lowers, is_step}
+use Rattle.branchfree.specs.Kinds.{asked_by, right_by, lowers, is_step}
+use Rattle.keeping.specs.declared.Fixed.{Fixed}
+use Rattle.keeping.specs.declared.Kept.{Kept}
 use Rattle.rules.specs.Kept.{HasFirms, HasHolding, HasHolders, HasDone, HasNext}
 
--- the firms that the wall counts and the roles that hold all rights used, of each person; the steps done and those that may be next, of
--- each folder; the levels of all persons and folders
-pub record Kept : Type 0 where
-  pub firms : List ℕ
-  pub holding : List ℕ
-  pub done : List ℕ
-  pub next : List ℕ
-  pub sets : List ℕ
-
+-- what is kept, part by part
 abbrev pub kept : List ℕ → List ℕ → List ℕ → List ℕ → List ℕ → Kept
 kept firms holding done next sets = record { firms = firms; holding = holding; done = done; next = next; sets = sets }
 
@@ -41,6 +35,13 @@ pub record Keeps (t : Tables) (H : Request → Bool) (l : List ℕ) (k : Kept) :
   pub done : HasDone t H k.done
   pub next : HasNext t H k.next
   pub levels : LevelSets t l k.sets
+
+-- what stays as it is during a run is that of the tables
+pub record FixedBy (t : Tables) (f : Fixed) : Type 0 where
+  pub rules : f.mask ≡ t.mask
+  pub enabling : f.steps ≡ t.steps
+  pub rights : HasHolders t f.holders
+  pub firms : HasClasses t f.classes
 
 -- the numbers at hand are those of the tables, which a load gives: the mask, for each right the roles that hold it, the steps that each
 -- step enables, and the entry of folder o, taken modulo 128, with the firms of its class
@@ -58,32 +59,8 @@ pub record PutKept (t : Tables) (before : State) (q : Request) (number : ℕ) (h
   pub left : history ≡ (recorded_if t (eqb number 0) before (some q)).history
   pub keeps : Keeps t (set_of history) (recorded_if t (eqb number 0) before (some q)).levels k
 
--- the lengths of what is kept
-pub record Sized (k : Kept) : Type 0 where
-  pub firms : length k.firms ≡ 64
-  pub holding : length k.holding ≡ 64
-  pub done : length k.done ≡ 128
-  pub next : length k.next ≡ 128
-  pub sets : length k.sets ≡ 192
-
--- the numbers of a request are within bounds
-pub record Within (at : Placed) : Type 0 where
-  pub person : at.person < 64
-  pub place : at.place < 128
-  pub index : at.index < 151552
-
--- what is kept of persons and folders
-pub record Gathered : Type 0 where
-  pub firms : List ℕ
-  pub holding : List ℕ
-  pub done : List ℕ
-  pub next : List ℕ
-
-abbrev pub sets : List ℕ → List ℕ → List ℕ → List ℕ → Gathered
-sets firms holding done next = record { firms = firms; holding = holding; done = done; next = next }
-
 -- what is kept of persons and folders after a request, granted or not, which the wall asks about or not, and which is a granted step or not
-pub record Added (g c b : Bool) (mask : ℕ) (steps : List ℕ) (at : Placed) (firm holders : ℕ) (before after : Gathered) : Type 0 where
+pub record Added (g c b : Bool) (mask : ℕ) (steps : List ℕ) (at : Placed) (firm holders : ℕ) (before after : Kept) : Type 0 where
   pub firms : after.firms
       ≡ cond (bit mask wall_rule)
       (set before.firms at.person
@@ -114,11 +91,22 @@ pub record Changed (q : Request) (g c : Bool) (mask : ℕ) (steps : List ℕ) (a
   where
     pub history : h' ≡ cond g (with_bit_at h at.index) h
     pub added :
-        Added g c (g && is_step q) mask steps at firm asked.holders
-        (sets before.firms before.holding before.done before.next)
-        (sets after.firms after.holding after.done after.next)
+        Added g c (g && is_step q) mask steps at firm asked.holders before after
     pub levels : after.sets
         ≡ set before.sets at.person (cond (g && lowers q) (bit_and asked.own asked.needed) asked.own)
+
+-- the sets that a request is judged by; of the wall, the roles and the pipeline what is not asked about is told as 0
+abbrev pub asked_of : Bool → Bool → Bool → List ℕ → ℕ → ℕ → Kept → ℕ → Placed → Asked
+asked_of wall roles pipeline holders class folder k kind at =
+    record {
+      needed = get_or k.sets at.set 0;
+      own = get_or k.sets at.person 0;
+      class = class;
+      counted = cond wall (get_or k.firms at.person 0) 0;
+      holding = cond roles (get_or k.holding at.person 0) 0;
+      holders = cond roles (get_or holders (right_by kind folder at.step) 0) 0;
+      next = cond pipeline (get_or k.next at.place 0) 0;
+    }
 
 -- a put of a request that was parsed, for all tables that the numbers at hand are those of and every level buffer of which the levels are
 -- kept

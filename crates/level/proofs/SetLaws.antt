@@ -10,6 +10,7 @@ use mathlib.Core.Bool.{Bool, true, false, cond, not, ◌&&◌, ◌||◌}
 use lib.Bits.{bit_and, bit_or, and_comm, and_mask, and_mod, and_shr, and_block, and_high, or_shr}
 use lib.Dec.{leb, eqb, lit<, lit≤}
 use lib.Pow as Pow
+use mir.Val.{bool_byte}
 use borrow.Author.Tests.{leb-true, leb-false, eq-eqb, eqb-true}
 use Rattle.bits.specs.Bits.{bit}
 use Rattle.bits.specs.Bounded.{lowest_below}
@@ -98,16 +99,26 @@ module _ (a : ℕ) (mark : Bool) (l : a < 65536) where
 pub one_shifted : (r : ℕ) → r < 64 → (1 * 2 ^ r) % 2 ^ 64 ≡ 2 ^ r
 one_shifted r l = Pow.shl_exact 1 r 64 (lit< tt) (omega arith) ∙ one-mul (2 ^ r)
 
+-- a test as a number
+byte_cond : (b : Bool) → bool_byte b ≡ cond b 1 0
+byte_cond true = refl
+byte_cond false = refl
+
+byte_lt : (b : Bool) → bool_byte b < 2
+byte_lt true = lit< tt
+byte_lt false = lit< tt
+
 -- `((1 << rank) - 1) | ((compartments | (mark << 12)) << 15)`
-pub made : (a : ℕ) (mark : Bool) {r c x : ℕ} → a < 65536 → r ≡ rank_of 12 a → c ≡ compartments_of 12 a → x ≡ cond mark 1 0 → x < 2
+pub made : (a : ℕ) (mark : Bool) {r c x : ℕ} → a < 65536 → r ≡ rank_of 12 a → c ≡ compartments_of 12 a → x ≡ bool_byte mark
     → bit_or ((1 * 2 ^ r) % 2 ^ 64 - 1) ((bit_or c ((x * 2 ^ 12) % 2 ^ 64) * 2 ^ 15) % 2 ^ 64) ≡ level_set a mark
 unfolding level_set
-made a mark {r} {c} {x} l rank compartments marked most =
+made a mark {r} {c} {x} l rank compartments marked =
+    let most : x < 2 = rw marked (byte_lt mark) in
     let small : c < 2 ^ 12 = rw compartments (compartments_lt 12 a) in
     let unary : 2 ^ r - 1 < 2 ^ 15 = rw rank (unary_lt a l) in
     rw (one_shifted r (let h = rank_lt a l in omega arith), or_above 12 1 64 c x small most (lit≤ tt))
     (or_above 15 13 64 (2 ^ r - 1) (c + 2 ^ 12 * x) unary (above_lt 12 1 c x small most) (lit≤ tt)
-    ∙ rw (rank, compartments, marked) (omega arith))
+    ∙ rw (rank, compartments, marked, byte_cond mark) (omega arith))
 
 -- the level of a rank that the lowest bit of 1 more tells, and of the compartments above it
 pub read_back : (a : ℕ) (mark : Bool) {set lowest x : ℕ} → a < 65536 → set ≡ level_set a mark

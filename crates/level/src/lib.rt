@@ -1,26 +1,16 @@
 // Levels (document 01, "Levels"): a rank of 4 bits above a set of 12 compartments, in the 16 bits of a number.
 #![tactic(auto)]
 
-ghost use Rattle.std.specs.Prelude.{◌≡◌, ◌%◌, min};
+ghost use Rattle.std.specs.Prelude.{◌≡◌, ◌%◌};
 ghost use Rattle.level.specs.Levels.{rank_of, compartments_of, level_of, compare_of, meet_of};
 
 pub mod sets;
 
-// The smaller of two numbers.
-fn smaller(a: u16, b: u16) -> u16
-    ensures { result ≡ min a b }
-{
-    if a <= b {
-        return a;
-    }
-    b
-}
-
-#[derive(Clone, Copy)]
+#[derive(Clone, Copy, Debug, PartialEq, Eq)]
 pub struct Level(pub u16);
 
 // How a level compares with another one, which is to be at least as high.
-#[derive(Clone, Copy)]
+#[derive(Clone, Copy, Debug, PartialEq, Eq)]
 pub enum Comparison {
     // It is at most the other.
     AtMost,
@@ -78,7 +68,7 @@ impl Level {
     pub fn meet(self, other: Level) -> Level
         ensures { result.0 ≡ meet_of 12 self.0 other.0 }
     {
-        let rank = smaller(self.0 & 0xf000, other.0 & 0xf000);
+        let rank = (self.0 & 0xf000).min(other.0 & 0xf000);
         Level(rank | (self.compartments() & other.compartments()))
     }
 }

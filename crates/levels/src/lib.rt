@@ -2,9 +2,9 @@
 // and `set_entry` are the only functions that read and write an entry.
 #![tactic(auto)]
 
-ghost use Rattle.std.specs.Prelude.{◌≡◌, cond, ◌<◌, length};
+ghost use Rattle.std.specs.Prelude.{◌≡◌, cond, ◌<◌};
 ghost use Rattle.level.specs.Levels.{meet_of};
-ghost use Rattle.policy.specs.Levels.{levels_bytes, level_at, with_level_at, first_levels};
+ghost use Rattle.policy.specs.Levels.{level_at, with_level_at, first_levels};
 
 pub mod sets;
 
@@ -14,33 +14,30 @@ use policy::{Person, Tables};
 // The bytes of a level buffer.
 pub const BYTES: usize = 128;
 
-// A byte as a number of 16 bits.
-fn wide(x: u8) -> u16
-    ensures { (result ≡ x) × (result < 256) }
-{
-    x as u16
-}
+// A level buffer whose length is right.
+pub type Levels = [u8; BYTES];
 
 // The level stored for person s.
-pub fn entry(l: &[u8], s: usize) -> Level
-    requires { (length l.now ≡ levels_bytes) × (s < 64) }
+pub fn entry(l: &Levels, s: usize) -> Level
+    requires { s < 64 }
     ensures { result.0 ≡ level_at l.now s }
 {
-    Level(wide(l[2 * s]) + 256 * wide(l[2 * s + 1]))
+    Level(u16::from_le_bytes([l[2 * s], l[2 * s + 1]]))
 }
 
 // Stores a level for person s.
-pub fn set_entry(l: &mut [u8], s: usize, level: Level)
-    requires { (length l.old ≡ levels_bytes) × (s < 64) }
+pub fn set_entry(l: &mut Levels, s: usize, level: Level)
+    requires { s < 64 }
     ensures { l.new ≡ with_level_at l.old s level.0 }
 {
-    l[2 * s] = (level.0 % 256) as u8;
-    l[2 * s + 1] = (level.0 / 256) as u8;
+    let [low, high] = level.0.to_le_bytes();
+    l[2 * s] = low;
+    l[2 * s + 1] = high;
 }
 
 // Lowers the level stored for person s to its meet with another.
-pub fn lower(l: &mut [u8], s: usize, level: Level)
-    requires { (length l.old ≡ levels_bytes) × (s < 64) }
+pub fn lower(l: &mut Levels, s: usize, level: Level)
+    requires { s < 64 }
     ensures { l.new ≡ with_level_at l.old s (meet_of 12 (level_at l.old s) level.0) }
 {
     let stored = entry(l, s);
@@ -58,9 +55,8 @@ fn first(person: Person) -> Level
 }
 
 // Stores each person's first level.
-pub fn set_first(t: Tables, l: &mut [u8])
-    requires { length l.old ≡ levels_bytes }
-    ensures { l.new ≡ first_levels t l.old }
+pub fn set_first(t: &Tables, l: &mut Levels)
+    ensures { l.new ≡ first_levels t.now l.old }
 {
     for s in 0..64 {
         set_entry(l, s, first(t.persons[s]));

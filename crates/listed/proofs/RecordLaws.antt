@@ -1,64 +1,66 @@
 -- Records written one after another: four bytes are stored, of which the first three or four are the record, and what was written before
 -- stands in front of them.
-use Prim.Native.Nat.{ℕ, suc, ◌+◌, ◌*◌, ◌≤◌, ◌<◌}
+use Prim.Native.Nat.{ℕ, suc, ◌+◌, ◌-◌, ◌*◌, ◌≤◌, ◌<◌}
 use native.Mathlib.Omega.{arith}
 use mathlib.Core.Path.{◌≡◌, refl, sym, ap, ◌∙◌}
 use mathlib.Core.Bool.{Bool, true, false, cond}
 use mathlib.Core.List.{List, [], ◌∷◌, ◌++◌, append_assoc, append-nil}
 use lib.Dec.{eqb}
-use lib.ListN.{length, get_or, set, take, length-set}
-use lib.Seq.{take-suc, take-suc-set, take-set-le}
+use lib.ListN.{length, get_or, take, drop, length-drop}
+use lib.Seq.{take-suc, take-add, take-append-le, drop_at, length-take-le}
+use borrow.Rule.Slice.PartMut.{put_mid, post_of, same_len_mid}
+use Rattle.std.proofs.lemmas.Slice.{take-put_mid_below}
 use Rattle.policy.specs.declared.Job.{Job}
 use Rattle.policy.specs.Plans.{no_job, job_record, records, jobs_at}
 use Rattle.listed.specs.Pairs.{job_at}
 use Rattle.listed.specs.Records.{joined, Appended, requests_by, WrittenBy}
 
--- one byte stored behind the front
-next_byte : (l front : List ℕ) (at x : ℕ) → take at l ≡ front → at < length l → take (suc at) (set l at x) ≡ front ++ x ∷ []
-next_byte l front at x e h = take-suc-set l at x h ∙ ap (λ (f : List ℕ). f ++ x ∷ []) e
+-- four bytes stored from a place on, of which the first k are meant
+front_stored : (l four : List ℕ) (at k : ℕ) → at + 4 ≤ length l → length four ≡ 4 → k ≤ 4
+    → take (at + k) (put_mid at (at + 4 - at) l four) ≡ take at l ++ take k four
+front_stored l four at k room size few =
+    let after = post_of at (at + 4 - at) l in
+    let stored = put_mid at (at + 4 - at) l four in
+    let back : drop at stored ≡ four ++ after = drop_at (take at l) (four ++ after) at (length-take-le at l (omega arith)) in
+    take-add at k stored
+    ∙ ap (λ (r : List ℕ). r ++ take k (drop at stored)) (take-put_mid_below at (at + 4 - at) l four at (omega arith) (omega arith))
+    ∙ ap (λ (r : List ℕ). take at l ++ take k r) back
+    ∙ ap (λ (r : List ℕ). take at l ++ r) (take-append-le k four after (omega (arith, size)))
 
-module _ (l : List ℕ) (at a b c d : ℕ) (room : at + 4 ≤ length l) where
-  abbrev stored : List ℕ
-  stored = set (set (set (set l at a) (at + 1) b) (at + 2) c) (at + 3) d
+pub record_stored : (l : List ℕ) (at : ℕ) {end third : ℕ} (j : Job) → at + 4 ≤ length l → third ≡ cond (eqb j.action 19) j.step j.target
+    → end ≡ at + cond (eqb j.action 19) 4 3
+    → Appended (job_record j) at l end (put_mid at (at + 4 - at) l (j.action ∷ j.person ∷ third ∷ j.target ∷ []))
+unfolding job_record
+record_stored l at {end} {third} j room is ends =
+    go (eqb j.action 19) is ends
+  where
+    same : length (put_mid at (at + 4 - at) l (j.action ∷ j.person ∷ third ∷ j.target ∷ [])) ≡ length l
+    same =
+        let room₁ : at + 4 - at ≤ length (drop at l) = omega (arith, length-drop at l) in
+        same_len_mid at (at + 4 - at) l (j.action ∷ j.person ∷ third ∷ j.target ∷ [])
+        (omega (arith, length-take-le (at + 4 - at) (drop at l) room₁))
 
-  stored_length : length stored ≡ length l
-  stored_length = simp length-set
-
-  front_three : take (at + 3) (set (set (set l at a) (at + 1) b) (at + 2) c) ≡ take at l ++ a ∷ b ∷ c ∷ []
-  front_three =
-      let one : at + 1 ≡ suc at = omega arith in
-      let two : at + 2 ≡ suc (suc at) = omega arith in
-      let three : at + 3 ≡ suc (suc (suc at)) = omega arith in
-      let l₁ : List ℕ = set l at a in
-      let l₂ : List ℕ = set l₁ (suc at) b in
-      let room₁ : suc at < length l₁ = simp length-set (omega arith) in
-      let room₂ : suc (suc at) < length l₂ = simp length-set (omega arith) in
-      let front₁ = next_byte l (take at l) at a refl (omega arith) in
-      let front₂ = next_byte l₁ (take at l ++ a ∷ []) (suc at) b front₁ room₁ in
-      rw (three, two, one)
-      (next_byte l₂ ((take at l ++ a ∷ []) ++ b ∷ []) (suc (suc at)) c front₂ room₂ ∙ simp append_assoc)
-
-  stored_three : take (at + 3) stored ≡ take at l ++ a ∷ b ∷ c ∷ []
-  stored_three = take-set-le (at + 3) _ (at + 3) d (omega arith) ∙ front_three
-
-  stored_four : take (at + 4) stored ≡ take at l ++ a ∷ b ∷ c ∷ d ∷ []
-  stored_four =
-      let four : at + 4 ≡ suc (at + 3) = omega arith in
-      let l₃ : List ℕ = set (set (set l at a) (at + 1) b) (at + 2) c in
-      let room₃ : at + 3 < length l₃ = simp length-set (omega arith) in
-      rw four (next_byte l₃ (take at l ++ a ∷ b ∷ c ∷ []) (at + 3) d front_three room₃ ∙ simp append_assoc)
-
-  pub record_stored : {end : ℕ} (j : Job) → j.action ≡ a → j.person ≡ b → c ≡ cond (eqb a 19) j.step j.target → j.target ≡ d
-      → end ≡ at + cond (eqb a 19) 4 3 → Appended (job_record j) at l end stored
-  unfolding job_record
-  record_stored {end} j action person third target ends =
-      rw action (go (eqb a 19) third ends)
-    where
-      go : (is : Bool) → c ≡ cond is j.step j.target → end ≡ at + cond is 4 3
-          → Appended (cond is (a ∷ j.person ∷ j.step ∷ j.target ∷ []) (a ∷ j.person ∷ j.target ∷ [])) at l end stored
-      go true e f =
-          record { size = stored_length; ends = f; front = rw (f, person, target, ← e) stored_four }
-      go false e f = record { size = stored_length; ends = f; front = rw (f, person, ← e) stored_three }
+    go : (step : Bool) → third ≡ cond step j.step j.target → end ≡ at + cond step 4 3
+        → Appended (cond step (j.action ∷ j.person ∷ j.step ∷ j.target ∷ []) (j.action ∷ j.person ∷ j.target ∷ [])) at l end
+        (put_mid at (at + 4 - at) l (j.action ∷ j.person ∷ third ∷ j.target ∷ []))
+    go true e f =
+        record {
+          size = same;
+          ends = f;
+          front =
+              rw f
+              (front_stored l (j.action ∷ j.person ∷ third ∷ j.target ∷ []) at 4 room refl (omega arith)
+              ∙ ap (λ (x : ℕ). take at l ++ j.action ∷ j.person ∷ x ∷ j.target ∷ []) e);
+        }
+    go false e f =
+        record {
+          size = same;
+          ends = f;
+          front =
+              rw f
+              (front_stored l (j.action ∷ j.person ∷ third ∷ j.target ∷ []) at 3 room refl (omega arith)
+              ∙ ap (λ (x : ℕ). take at l ++ j.action ∷ j.person ∷ x ∷ []) e);
+        }
 
 -- ---- records in an order
 

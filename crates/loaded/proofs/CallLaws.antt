@@ -79,17 +79,16 @@ module _ (t : Tables) (a : State) where
 
 -- ---- blank
 
-module _ (t : Tables) (h l : List ℕ) {n : ℕ} (checked : n ≡ ladder (call_checks t (state h l))) where
-  pub blank_refused : n ≢ 0 → (n ≡ blank_number t (state h l)) × (state h l ≡ blank_state t (state h l))
+module _ (t : Tables) (h l : List ℕ) where
+  pub blank_refused : {n : ℕ} → n ≡ ladder (call_checks t (state h l)) → n ≢ 0
+      → (n ≡ blank_number t (state h l)) × (state h l ≡ blank_state t (state h l))
   unfolding blank_number
-  blank_refused k = (checked, sym (refusals.blank t (state h l) (λ z. k (checked ∙ z))))
+  blank_refused checked k = (checked, sym (refusals.blank t (state h l) (λ z. k (checked ∙ z))))
 
-  pub blank_made : {h' l' : List ℕ} → n ≡ 0 → h' ≡ zeros (length h) → l' ≡ first_levels t l
+  pub blank_made : {h' l' : List ℕ} → ladder (call_checks t (state h l)) ≡ 0 → h' ≡ zeros (length h) → l' ≡ first_levels t l
       → (0 ≡ blank_number t (state h l)) × (state h' l' ≡ blank_state t (state h l))
   unfolding blank_number blank_state
-  blank_made z e f =
-      let passed = sym checked ∙ z in
-      (sym passed, rw passed (ap₂ state (e ∙ ap zeros (passed_ready t (state h l) passed).size) f))
+  blank_made passed e f = (sym passed, rw passed (ap₂ state (e ∙ ap zeros (passed_ready t (state h l) passed).size) f))
 
 -- ---- judge and put
 

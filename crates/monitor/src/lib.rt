@@ -1,9 +1,10 @@
 // The calls of the access monitor (document 01, "Requests and calls", and document 02). Each ends, on every input, in a published number; a
-// call whose own number is not 0 changes no byte lent to it.
+// call whose own number is not 0 changes no byte lent to it. They return numbers and records, and take slices: 01 and README name them so.
 #![tactic(auto)]
 
-ghost use Rattle.std.specs.Prelude.{◌≡◌};
+ghost use Rattle.std.specs.Prelude.{◌≡◌, IfOk, IfErr};
 ghost use Rattle.policy.specs.Rulebook.{load_book};
+ghost use Rattle.policy.specs.Refusals.{refusal_number};
 ghost use Rattle.policy.specs.Checks.{ladder};
 ghost use Rattle.policy.specs.Calls.{
   state,
@@ -22,7 +23,7 @@ ghost use Rattle.tallying.specs.TallyIs.{TallyIs};
 
 use counts::Tally;
 use jobs::Packed;
-use policy::{Job, Loaded, Plan, Ran, Standing, Tables, numbers};
+use policy::{GivenTables, Job, Loaded, Plan, Ran, Refusal, Standing, Tables, number_of};
 
 // Loads a rulebook.
 pub fn load(book: &[u8]) -> Loaded
@@ -38,20 +39,21 @@ pub fn rest(book: &[u8]) -> &[u8]
     rulebook::rest(book)
 }
 
-// The checks that every call on tables, a history and levels starts with: 0 where they pass.
-fn checked(t: Tables, h: &[u8], levels: &[u8]) -> u8
-    ensures { result ≡ ladder (call_checks t (state h.now levels.now)) }
+// The checks that every call on tables, a history and levels starts with: the tables, as ones that a load gives, or what refuses.
+fn checked(t: Tables, h: &[u8], levels: &[u8]) -> Result<GivenTables, Refusal>
+    ensures ok { IfOk result (λ given. (given.tables ≡ t) × (ladder (call_checks t (state h.now levels.now)) ≡ 0)) }
+    ensures err { IfErr result (λ refusal. refusal_number refusal ≡ ladder (call_checks t (state h.now levels.now))) }
 {
     if h.len() != history::BYTES {
-        return numbers::WRONG_LENGTH;
+        return Err(Refusal::WrongLength);
     }
     if levels.len() != levels::BYTES {
-        return numbers::WRONG_LEVELS_LENGTH;
+        return Err(Refusal::WrongLevelsLength);
     }
-    if rulebook::given(t) {
-        return numbers::GRANTED;
+    if !rulebook::given(t) {
+        return Err(Refusal::NotGiven);
     }
-    numbers::NOT_GIVEN
+    Ok(GivenTables { tables: t })
 }
 
 // Makes a history blank, and stores each person's first level.
@@ -59,22 +61,20 @@ pub fn blank(t: Tables, h: &mut [u8], levels: &mut [u8]) -> u8
     ensures { (result ≡ blank_number t (state h.old levels.old))
         × (state h.new levels.new ≡ blank_state t (state h.old levels.old)) }
 {
-    let number = checked(t, h, levels);
-    if number != numbers::GRANTED {
-        return number;
+    match checked(t, h, levels) {
+        Ok(given) => number_of(loaded::blank(&given, h, levels)),
+        Err(refusal) => u8::from(refusal),
     }
-    loaded::blank(t, h, levels)
 }
 
 // Judges the request at the front of the bytes, and records nothing.
 pub fn judge(t: Tables, h: &[u8], levels: &[u8], request: &[u8]) -> u8
     ensures { result ≡ judge_number t (state h.now levels.now) request.now }
 {
-    let number = checked(t, h, levels);
-    if number != numbers::GRANTED {
-        return number;
+    match checked(t, h, levels) {
+        Ok(given) => number_of(loaded::judge(&given, h, levels, request)),
+        Err(refusal) => u8::from(refusal),
     }
-    loaded::judge(t, h, levels, request)
 }
 
 // Judges the request at the front of the bytes; a granted one is recorded, and a granted read or step lowers its person's level.
@@ -82,11 +82,10 @@ pub fn put(t: Tables, h: &mut [u8], levels: &mut [u8], request: &[u8]) -> u8
     ensures { (result ≡ judge_number t (state h.old levels.old) request.now)
         × (state h.new levels.new ≡ put_state t (state h.old levels.old) request.now) }
 {
-    let number = checked(t, h, levels);
-    if number != numbers::GRANTED {
-        return number;
+    match checked(t, h, levels) {
+        Ok(given) => number_of(loaded::put(&given, h, levels, request)),
+        Err(refusal) => u8::from(refusal),
     }
-    loaded::put(t, h, levels, request)
 }
 
 // Puts the requests of the bytes one after another, and writes one answer byte for each.
@@ -94,11 +93,10 @@ pub fn run(t: Tables, h: &mut [u8], levels: &mut [u8], requests: &[u8], answers:
     ensures { RunIs t (state h.old levels.old) requests.now answers.old result
         (state h.new levels.new) answers.new }
 {
-    let number = checked(t, h, levels);
-    if number != numbers::GRANTED {
-        return loaded::no_run(number);
+    match checked(t, h, levels) {
+        Ok(given) => loaded::run(&given, h, levels, requests, answers),
+        Err(refusal) => loaded::no_run(u8::from(refusal)),
     }
-    loaded::run(t, h, levels, requests, answers)
 }
 
 // Puts the requests of the bytes one after another, and raises the count of each request read (document 02, Point 7). The counts are 2,080
@@ -113,11 +111,10 @@ pub fn tally_counts(
     ensures { TallyIs t (state h.old levels.old) requests.now counts.old result
         (state h.new levels.new) counts.new }
 {
-    let refusal = checked(t, h, levels);
-    if refusal != numbers::GRANTED {
-        return loaded::no_run(refusal);
+    match checked(t, h, levels) {
+        Ok(given) => tallying::tally(&given, h, levels, requests, counts),
+        Err(refused) => loaded::no_run(u8::from(refused)),
     }
-    tallying::tally(t, h, levels, requests, counts)
 }
 
 // The same over one tally record, which has 2,080 counts.
@@ -132,22 +129,20 @@ pub fn tally(t: Tables, h: &mut [u8], levels: &mut [u8], requests: &[u8], tally:
 pub fn standing(t: Tables, h: &[u8], levels: &[u8], person: u8) -> Standing
     ensures { result ≡ standingOf t (state h.now levels.now) person }
 {
-    let number = checked(t, h, levels);
-    if number != numbers::GRANTED {
-        return loaded::no_standing(number);
+    match checked(t, h, levels) {
+        Ok(given) => loaded::standing(&given, h, levels, person),
+        Err(refusal) => loaded::no_standing(u8::from(refusal)),
     }
-    loaded::standing(t, h, levels, person)
 }
 
 // An order of the jobs in which all are granted (document 02, Point 6). The list is lent as bytes, four for each job.
 pub fn plan_bytes(t: Tables, h: &[u8], levels: &[u8], jobs: &[u8]) -> Plan
     ensures { IsPlan t (state h.now levels.now) (jobs_of jobs.now) result }
 {
-    let number = checked(t, h, levels);
-    if number != numbers::GRANTED {
-        return planning::no_plan(number);
+    match checked(t, h, levels) {
+        Ok(given) => planning::plan(&given, h, levels, jobs),
+        Err(refusal) => planning::no_plan(u8::from(refusal)),
     }
-    planning::plan(t, h, levels, jobs)
 }
 
 // A plan of packed jobs: of a list of at most 64 by its own bytes, of a longer one by all 260, which hold 65 jobs.

@@ -3,8 +3,9 @@
 use Prim.Native.Nat.{ℕ, zero, suc, ◌+◌, ◌*◌, ◌%◌, ◌<◌}
 use native.Mathlib.Nat.{lt_of_le_of_lt}
 use native.Mathlib.Omega.{arith}
-use mathlib.Core.Path.{◌≡◌, ap, ap₂, ◌∙◌}
-use mathlib.Core.Bool.{Bool, true, not, ◌&&◌, not-not, and_comm}
+use mathlib.Core.Path.{◌≡◌, refl, sym, ap, ap₂, ◌∙◌}
+use mathlib.Core.Bool.{Bool, true, not, ◌&&◌, ◌||◌, not-not, and_comm, or_comm, or_assoc}
+use Rattle.std.specs.List.{list_any, range_with_len}
 use mathlib.Core.List.{List}
 use lib.Dec.{eqb}
 use borrow.Author.Tests.{ne_eqb}
@@ -25,6 +26,29 @@ use Rattle.policy.proofs.Requests.{declared_person, step_declared, declared_plac
 use Rattle.history.specs.Words.{word_at}
 use Rattle.history.proofs.WordLaws.{word_bit}
 use Rattle.pipeline.specs.Steps.{done_by, leads, leads_among, pipeline_in}
+
+-- ---- numbers asked one after another
+
+-- counted from the lowest number
+any_low : (n : ℕ) (p : ℕ → Bool) → p 0 || any_below n (λ k. p (suc k)) ≡ any_below (suc n) p
+unfolding any_below
+any_low zero p = refl
+any_low (suc n) p =
+    let rest = any_below n (λ k. p (suc k)) in
+    sym (or_assoc (p 0) (p (suc n)) rest) ∙ ap (λ (b : Bool). b || rest) (or_comm (p 0) (p (suc n)))
+    ∙ or_assoc (p (suc n)) (p 0) rest ∙ ap (λ (b : Bool). p (suc n) || b) (any_low n p)
+
+any_from : (p : ℕ → Bool) (a n : ℕ) → list_any p (range_with_len a n) ≡ any_below n (λ k. p (a + k))
+unfolding any_below
+any_from p a zero = refl
+any_from p a (suc n) =
+    ap (λ (b : Bool). p a || b)
+    (any_from p (a + 1) n ∙ any_ext n (λ k. p (a + 1 + k)) (λ k. p (a + suc k)) (λ k l. ap p (omega arith)))
+    ∙ ap (λ (m : ℕ). p m || any_below n (λ k. p (a + suc k))) (omega arith) ∙ any_low n (λ k. p (a + k))
+
+-- `any` over the numbers below n
+pub any_listed : (p : ℕ → Bool) (n : ℕ) → list_any p (range_with_len 0 n) ≡ any_below n p
+any_listed p n = any_from p 0 n ∙ any_ext n (λ k. p (0 + k)) p (λ k l. ap p (omega arith))
 
 -- ---- the steps done
 

@@ -2,26 +2,24 @@
 // that each step enables.
 #![tactic(auto)]
 
-ghost use Rattle.std.specs.Prelude.{◌≡◌, not, cond, ◌+◌, ◌*◌, ◌%◌, ◌<◌, eqb, length};
+ghost use Rattle.std.specs.Prelude.{◌≡◌, not, cond, ◌%◌, ◌<◌, eqb};
 ghost use Rattle.bits.specs.Bits.{with_bit, mask_below};
 ghost use Rattle.bits.specs.Bounded.{any_below};
-ghost use Rattle.policy.specs.History.{history_bytes};
 ghost use Rattle.pipeline.specs.Steps.{done_by, leads, leads_among, pipeline_in};
+
+use bits::Word;
+use history::History;
 
 // The set, with step p where somebody did it.
 fn with_step(done: u16, doers: u64, p: usize) -> u16
     ensures { result ≡ cond (not (eqb doers 0)) (with_bit done (p % 16)) done }
 {
-    if doers != 0 {
-        bits::with_bit16(done, p)
-    } else {
-        done
-    }
+    if doers != 0 { done.with_bit(p) } else { done }
 }
 
 // The set of the steps that some of these persons did on folder o.
-pub fn steps_done(h: &[u8], persons: u64, o: usize) -> u16
-    requires { (length h.now ≡ history_bytes) × (o < 128) }
+pub fn steps_done(h: &History, persons: u64, o: usize) -> u16
+    requires { o < 128 }
     ensures { result ≡ mask_below 16 (done_by h.now persons o) }
 {
     let mut done: u16 = 0;
@@ -39,25 +37,14 @@ pub fn steps_done(h: &[u8], persons: u64, o: usize) -> u16
 fn leads_to(enabled: u16, done: u16, p: usize, q: usize) -> bool
     ensures { result ≡ leads enabled done p q }
 {
-    if !bits::bit16(done, p) {
-        return false;
-    }
-    if !bits::bit16(enabled, q) {
-        return false;
-    }
-    enabled & done == 0
+    done.bit(p) & enabled.bit(q) & (enabled & done == 0)
 }
 
 // Whether some step leads to q.
 fn is_led_to(steps: &[u16; 16], done: u16, q: usize) -> bool
     ensures { result ≡ any_below 16 (leads_among steps.now done q) }
 {
-    for p in 0..16 {
-        if leads_to(steps[p], done, p, q) {
-            return true;
-        }
-    }
-    false
+    (0..16).any(|p| leads_to(steps[p], done, p, q))
 }
 
 // Whether the pipeline permits step q on a folder on which these steps are done.
@@ -74,7 +61,7 @@ pub fn permits(steps: &[u16; 16], done: u16, q: usize) -> bool
 fn led_by(enabled: u16, done: u16, p: usize) -> u16
     ensures { result ≡ mask_below 16 (leads enabled done p) }
 {
-    if bits::both(bits::bit16(done, p), enabled & done == 0) {
+    if done.bit(p) & (enabled & done == 0) {
         return enabled;
     }
     0
@@ -88,9 +75,9 @@ fn led_steps(steps: &[u16; 16], done: u16) -> u64
 {
     let mut next: u16 = 0;
     for p in 0..16 {
-        next = next | led_by(steps[p], done, p);
+        next |= led_by(steps[p], done, p);
     }
-    bits::word16(next & 65534)
+    u64::from(next & 65534)
 }
 
 // The steps that the pipeline permits on a folder on which these steps are done: where none is, "create" alone, without a look at the

@@ -2,3 +2,4 @@ pub mod PlannableLaws
 pub mod Trials
 pub mod Orders
 pub mod PlanLaws
+pub mod Asked

@@ -10,6 +10,7 @@ use mathlib.Core.List.{List, [], ◌∷◌, Memᴰ}
 use lib.Dec.{eqb}
 use lib.ListN.{length}
 use borrow.Author.Tests.{not-false, not-true}
+use Rattle.std.specs.Prelude.{Option, Some, None}
 use Rattle.bits.specs.Bits.{bit}
 use Rattle.bits.specs.Bounded.{◌implies◌}
 use Rattle.bits.proofs.Masks.{bit_mask_below}
@@ -86,26 +87,21 @@ module _ (t : Tables) (bytes : List ℕ) (n : ℕ) (size : length (jobs_of bytes
   )
 
   -- what sorting by the rows answers is an order of the jobs, or jobs that keep each other back
-  pub sorted_jobs : {found : Bool} {positions : List ℕ} → Sorts rows n found positions → OrderOf t (jobs_of bytes) found positions
-  sorted_jobs s =
+  pub sorted_jobs : (order : Option (List ℕ)) → Sorts rows n order → OrderOf t (jobs_of bytes) order
+  sorted_jobs (Some positions) found =
       record {
-        is = λ e.
-            let found = s.is e in
-            record {
-              order = found.order;
-              each = rw size found.each;
-              stands = rw size found.stands;
-              ordered = ordered found.order (permuted_below n found.order found.each) found.sorted;
-            };
-        none = λ e.
-            let left = s.none e in
-            record {
-              pending = bit left.pending;
-              place = left.place;
-              waits = left.waits;
-              inside = λ i h. rw size (left.inside i h);
-              kept = λ i h.
-                  let (j, waits, b) = left.kept i h in
-                  (j, waits, not-true _ (sym (row_says i j (left.inside i h) (left.inside j waits)) ∙ b));
-            };
+        order = found.order;
+        each = rw size found.each;
+        stands = rw size found.stands;
+        ordered = ordered found.order (permuted_below n found.order found.each) found.sorted;
+      }
+  sorted_jobs None left =
+      record {
+        pending = bit left.pending;
+        place = left.place;
+        waits = left.waits;
+        inside = λ i h. rw size (left.inside i h);
+        kept = λ i h.
+            let (j, waits, b) = left.kept i h in
+            (j, waits, not-true _ (sym (row_says i j (left.inside i h) (left.inside j waits)) ∙ b));
       }

@@ -20,7 +20,7 @@ use Rattle.policy.specs.Plans.{no_job, jobs_of, job_record, jobs_at, no_start, p
 use Rattle.questions.proofs.AskingLaws.{same_person, same_folder}
 use Rattle.listed.specs.Pairs.{job_at}
 use Rattle.planning.specs.Planning.{planned_action, plannable_by}
-use Rattle.listed.proofs.JobBytes.{four_at, job_at_lem, jobs_length}
+use Rattle.listed.proofs.JobBytes.{jobs_length}
 
 -- a job's record can be planned
 abbrev pub planned : Tables → Job → Bool
@@ -85,13 +85,6 @@ pub planned_more : (t : Tables) (bytes : List ℕ) (n : ℕ) → PlannedBelow t 
     → PlannedBelow t bytes (n + 1)
 planned_more t bytes n each e i l =
     ⊎_elim (λ (same : i ≡ n). rw same e) (λ below. each i below) (eq-or-lt_of_le (omega arith))
-
--- the answer for the job at a place, by the entries of its parties
-pub planned_by : (t : Tables) (bytes : List ℕ) (i s o : ℕ) {r : Bool} → 4 * i + 3 < length bytes → s ≡ get_or bytes (4 * i + 1) 0
-    → o ≡ get_or bytes (4 * i + 2) 0
-    → r ≡ plannable_by (get_or bytes (4 * i) 0) s o (get_or bytes (4 * i + 3) 0) (person_at t (s % 64)) (folder_at t (o % 128))
-    → r ≡ planned t (job_at bytes i)
-planned_by t bytes i s o l e f is = is ∙ rw (e, f, job_at_lem i bytes l) (by_entries t (four_at bytes (4 * i)))
 
 all_of : (t : Tables) (jobs : List Job) → ((i : ℕ) → i < length jobs → planned t (get_or jobs i no_job) ≡ true) → all_plannable t jobs ≡ true
 unfolding all_plannable

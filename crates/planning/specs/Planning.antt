@@ -1,12 +1,14 @@
 -- What the parts of planning answer: whether a job can be planned, by the entries of its parties, a refused plan, and an order of the jobs
 -- by the rules on pairs.
-use Rattle.std.specs.Prelude.{ℕ, ◌-◌, ◌≡◌, Bool, true, false, ◌&&◌, ◌||◌, eqb, ltb, leb, length, replicate}
+use Rattle.std.specs.Prelude.{ℕ, ◌-◌, ◌≡◌, Bool, ◌&&◌, ◌||◌, eqb, ltb, leb, length, replicate, Option, MatchOption, Result, Ok, Err}
 use mathlib.Core.List.{List, ◌++◌, Perm}
 use Rattle.policy.specs.declared.Person.{Person}
 use Rattle.policy.specs.declared.Folder.{Folder}
 use Rattle.policy.specs.declared.Tables.{Tables}
 use Rattle.policy.specs.declared.Job.{Job}
 use Rattle.policy.specs.declared.Plan.{Plan}
+use Rattle.policy.specs.declared.answer.Refusal.{Refusal}
+use Rattle.policy.specs.Refusals.{refusal_number}
 use Rattle.policy.specs.Plans.{jobs_at, places}
 use Rattle.precedence.specs.Precedence.{Ordered, Stuck}
 
@@ -21,6 +23,11 @@ plannable_by action s o step person folder =
 unfoldable pub no_plan : ℕ → Plan
 no_plan number = record { number = number; positions = replicate 64 0 }
 
+-- what planning answers, as a plan: the positions, or the number of what refuses
+abbrev pub plan_of : Result (List ℕ) Refusal → Plan
+plan_of (Ok positions) = record { number = 0; positions = positions }
+plan_of (Err refusal) = no_plan (refusal_number refusal)
+
 -- the positions are those of an order in which each job may come before each later one, then zeros
 pub record OrderedBy (t : Tables) (jobs : List Job) (positions : List ℕ) : Type 0 where
   pub order : List ℕ
@@ -28,7 +35,6 @@ pub record OrderedBy (t : Tables) (jobs : List Job) (positions : List ℕ) : Typ
   pub stands : positions ≡ order ++ replicate (64 - length jobs) 0
   pub ordered : Ordered t (jobs_at jobs order)
 
--- such an order, or jobs that keep each other back
-pub record OrderOf (t : Tables) (jobs : List Job) (found : Bool) (positions : List ℕ) : Type 0 where
-  pub is : found ≡ true → OrderedBy t jobs positions
-  pub none : found ≡ false → Stuck t jobs
+-- such an order, or none where jobs keep each other back
+abbrev pub OrderOf : Tables → List Job → Option (List ℕ) → Type 0
+OrderOf t jobs order = MatchOption order (Stuck t jobs) (OrderedBy t jobs)

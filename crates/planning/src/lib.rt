@@ -4,15 +4,15 @@
 #![tactic(auto)]
 
 ghost use Rattle.std.specs.Prelude.{◌≡◌, true, ◌&&◌, ◌*◌, ◌≤◌, leb, length};
-ghost use Rattle.policy.specs.Rulebook.{given};
 ghost use Rattle.policy.specs.Calls.{state};
-ghost use Rattle.policy.specs.Plans.{jobs_of, all_plannable, IsPlan};
-ghost use Rattle.questions.specs.Judging.{Ready};
-ghost use Rattle.planning.specs.Planning.{planned_action, plannable_by, no_plan, OrderOf};
+ghost use Rattle.policy.specs.Request.{request_of};
+ghost use Rattle.policy.specs.Plans.{jobs_of, job_record, plannable, all_plannable, IsPlan};
+ghost use Rattle.planning.specs.Planning.{planned_action, no_plan, plan_of, OrderOf};
 
+use history::History;
+use levels::Levels;
 use listed::pairs;
-use policy::{Folder, Person, Plan, Tables, numbers};
-use sorting::Order;
+use policy::{GivenTables, Job, Kind, Plan, Refusal, Tables};
 
 mod trial;
 
@@ -26,28 +26,32 @@ pub fn no_plan(number: u8) -> Plan
     }
 }
 
-// Whether jobs of this action are planned: a read, a write, or a step of at most 15.
-fn is_planned(action: u8, step: u8) -> bool
-    ensures { result ≡ planned_action action step }
+// Whether jobs of this kind are planned: a read, a write, or a step of at most 15.
+#[tactic(auto, unfolding(crate::specs::Planning::planned_action))]
+fn is_planned(job: Job) -> bool
+    ensures { result ≡ planned_action job.action job.step }
 {
-    if pairs::is_either(action, 16, 17) {
-        return true;
+    match Kind::try_from(job.action) {
+        Ok(Kind::Read | Kind::Write) => true,
+        Ok(Kind::Step) => job.step <= 15,
+        Ok(Kind::Start) | Err(_) => false,
     }
-    bits::both(action == 19, step <= 15)
 }
 
-// Whether a job of this action and step can be planned, where these are the entries of its person s and its folder o.
-fn is_plannable(action: u8, s: usize, o: usize, step: u8, person: Person, folder: Folder) -> bool
-    ensures { result ≡ plannable_by action s o step person folder }
+// Whether a job can be planned.
+fn is_plannable(t: &Tables, job: Job) -> bool
+    ensures { result ≡ plannable t.now (request_of (job_record job)) }
 {
-    let asks = bits::both(s < 64, person.declared);
-    let known = bits::both(asks, bits::both(o < 128, folder.declared));
-    bits::both(known, is_planned(action, step))
+    let person = t.persons[usize::from(job.person) % 64];
+    let folder = t.folders[usize::from(job.target) % 128];
+    let asks = (job.person < 64) & person.declared;
+    let known = (job.target < 128) & folder.declared;
+    (asks & known) & is_planned(job)
 }
 
 // Whether the list has at most 64 jobs, each whole, and each can be planned.
-fn are_plannable(t: Tables, jobs: &[u8]) -> bool
-    ensures { result ≡ (leb (length (jobs_of jobs.now)) 64 && all_plannable t (jobs_of jobs.now)) }
+fn are_plannable(t: &Tables, jobs: &[u8]) -> bool
+    ensures { result ≡ (leb (length (jobs_of jobs.now)) 64 && all_plannable t.now (jobs_of jobs.now)) }
 {
     let left = jobs.len();
     if left > 256 {
@@ -57,16 +61,7 @@ fn are_plannable(t: Tables, jobs: &[u8]) -> bool
         return false;
     }
     for i in 0..left / 4 {
-        let s = bits::wide(jobs[4 * i + 1]);
-        let o = bits::wide(jobs[4 * i + 2]);
-        if !is_plannable(
-            jobs[4 * i],
-            s,
-            o,
-            jobs[4 * i + 3],
-            t.persons[s % 64],
-            t.folders[o % 128],
-        ) {
+        if !is_plannable(t, listed::job_at(jobs, i)) {
             return false;
         }
     }
@@ -74,45 +69,54 @@ fn are_plannable(t: Tables, jobs: &[u8]) -> bool
 }
 
 // The n jobs in an order in which each may come before each later one.
-fn order(t: Tables, jobs: &[u8], n: usize) -> Order
-    requires { (n ≤ 64) × (length jobs.now ≡ 4 * n) × (all_plannable t (jobs_of jobs.now) ≡ true) }
-    ensures { OrderOf t (jobs_of jobs.now) result.found result.positions }
+fn order(t: &Tables, jobs: &[u8], n: usize) -> Option<[u8; 64]>
+    requires { (n ≤ 64) × (length jobs.now ≡ 4 * n) × (all_plannable t.now (jobs_of jobs.now) ≡ true) }
+    ensures { OrderOf t.now (jobs_of jobs.now) result }
 {
     let sides = pairs::sides(t, jobs, n);
-    let rows = pairs::rows(sides, n);
+    let rows = pairs::rows(&sides, n);
     sorting::sort(&rows, n)
 }
 
-// A plan of n jobs that can be planned: in the order found, if putting them so is granted throughout.
-fn plan_sorted(t: Tables, h: &[u8], levels: &[u8], jobs: &[u8], n: usize) -> Plan
-    requires { Ready t h.now levels.now × (n ≤ 64) × (length jobs.now ≡ 4 * n) × (all_plannable t (jobs_of jobs.now) ≡ true) }
-    ensures { IsPlan t (state h.now levels.now) (jobs_of jobs.now) result }
+// The positions of n jobs that can be planned: in the order found, if putting them so is granted throughout.
+fn sorted_positions(
+    t: &GivenTables,
+    h: &History,
+    levels: &Levels,
+    jobs: &[u8],
+    n: usize,
+) -> Result<[u8; 64], Refusal>
+    requires { (n ≤ 64) × (length jobs.now ≡ 4 * n) × (all_plannable t.now.tables (jobs_of jobs.now) ≡ true) }
+    ensures { IsPlan t.now.tables (state h.now levels.now) (jobs_of jobs.now) (plan_of result) }
 {
-    let found = order(t, jobs, n);
-    if !found.found {
-        return no_plan(numbers::NO_ORDER);
-    }
-    let positions = found.positions;
+    let positions = order(&t.tables, jobs, n).ok_or(Refusal::NoOrder)?;
     if !trial::is_granted(t, h, levels, jobs, &positions, n) {
-        return no_plan(numbers::NO_ORDER);
+        return Err(Refusal::NoOrder);
     }
-    Plan {
-        number: numbers::GRANTED,
-        positions: positions,
+    Ok(positions)
+}
+
+// The positions of the jobs in the order of putting, then zeros.
+fn positions(t: &GivenTables, h: &[u8], levels: &[u8], jobs: &[u8]) -> Result<[u8; 64], Refusal>
+    ensures { IsPlan t.now.tables (state h.now levels.now) (jobs_of jobs.now) (plan_of result) }
+{
+    let h = h.as_array().ok_or(Refusal::WrongLength)?;
+    let levels = levels.as_array().ok_or(Refusal::WrongLevelsLength)?;
+    if !are_plannable(&t.tables, jobs) {
+        return Err(Refusal::NotPlannable);
     }
+    sorted_positions(t, h, levels, jobs, jobs.len() / 4)
 }
 
 // A plan of the jobs.
-pub fn plan(t: Tables, h: &[u8], levels: &[u8], jobs: &[u8]) -> Plan
-    requires { given t ≡ true }
-    ensures { IsPlan t (state h.now levels.now) (jobs_of jobs.now) result }
+pub fn plan(t: &GivenTables, h: &[u8], levels: &[u8], jobs: &[u8]) -> Plan
+    ensures { IsPlan t.now.tables (state h.now levels.now) (jobs_of jobs.now) result }
 {
-    let number = loaded::lengths(h, levels);
-    if number != numbers::GRANTED {
-        return no_plan(number);
+    match positions(t, h, levels, jobs) {
+        Ok(positions) => Plan {
+            number: 0,
+            positions,
+        },
+        Err(refusal) => no_plan(u8::from(refusal)),
     }
-    if !are_plannable(t, jobs) {
-        return no_plan(numbers::NOT_PLANNABLE);
-    }
-    plan_sorted(t, h, levels, jobs, jobs.len() / 4)
 }

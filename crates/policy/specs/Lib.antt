@@ -1,5 +1,8 @@
 pub mod Checks
+pub mod Refusals
 pub mod Tables
+pub mod InForce
+pub mod Kinds
 pub mod Rulebook
 pub mod History
 pub mod Request

@@ -3,17 +3,19 @@
 
 use level::Level;
 
-pub mod numbers;
+pub mod answer;
+pub mod given_tables;
+pub mod kind;
+pub mod rule;
 
-// The four rules, each by its bit in the mask of rules in force.
-pub const WALL_RULE: usize = 0;
+pub use answer::{Answer, GRANTED, Refusal, number_of};
+pub use given_tables::GivenTables;
+pub use kind::Kind;
+pub use rule::{Rule, in_force};
 
-pub const LOW_WATER_RULE: usize = 1;
-
-pub const ROLES_RULE: usize = 2;
-
-pub const PIPELINE_RULE: usize = 3;
-
+// An entry that is not declared is marked so, and is no None: callers hand tables in, and the definition `given`, which is the check for
+// 11, says that such an entry is zero. A folder's kind is a number of document 01, 0 to 15, with no names.
+//
 // A firm and its conflict class (document 01: "class of rivals").
 #[derive(Clone, Copy)]
 pub struct Firm {
@@ -56,6 +58,9 @@ pub struct Tables {
     pub steps: [u16; 16],
 }
 
+// The number stands beside the rest in what the calls return: the definitions `load_book`, `ran`, `standing` and `IsPlan` speak of such
+// records, and theorems of all four.
+//
 // What loading returns: 0 or the number of the refusal, the offset of the end record or the refused one, and the tables.
 #[derive(Clone, Copy)]
 pub struct Loaded {

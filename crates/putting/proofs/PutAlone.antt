@@ -3,11 +3,12 @@
 use Prim.Native.Nat.{ℕ, ◌%◌, ◌<◌}
 use native.Mathlib.Omega.{arith}
 use mathlib.Core.Path.{◌≡◌, refl, sym, ap₂, ◌∙◌, subst}
+use mathlib.Core.Logic.{◌≢◌}
 use mathlib.Core.Bool.{Bool, true, false, cond, ◌&&◌}
 use mathlib.Core.List.{List}
 use mathlib.Core.Option.{Option, none, some, none-ne-some, some-injective}
 use lib.Dec.{eqb, ltb}
-use borrow.Author.Tests.{ltb-true}
+use borrow.Author.Tests.{ltb-true, ne_eqb}
 use Rattle.bits.proofs.Booleans.{and_left, and_right}
 use Rattle.policy.specs.declared.Tables.{Tables}
 use Rattle.policy.specs.Checks.{ladder}
@@ -19,6 +20,7 @@ use Rattle.policy.proofs.Requests.{declared_place}
 use Rattle.policy.proofs.Granted.{checks_passed}
 use Rattle.request.specs.declared.Parsed.{Parsed}
 use Rattle.request.specs.Parsed.{access_by, as_request}
+use Rattle.request.proofs.KindLaws.{kind_none}
 use Rattle.questions.specs.Judging.{number_for}
 use Rattle.putting.specs.Running.{Fits, Recorded, lowered_to}
 
@@ -77,8 +79,9 @@ module _ {h l : List ℕ} {r : Parsed} {level : ℕ} {h' l' : List ℕ} where
   unfolding lowered
   start_recorded s u e history levels = recorded_by (start s u) e (λ t is. (history, levels))
 
-  pub none_recorded : as_request r ≡ none → Recorded h l r level h' l'
-  none_recorded e = record { one = λ t q e' is. absurd (none-ne-some q (sym e ∙ e')) }
+  -- a kind of no request
+  pub other_recorded : r.kind ≢ 16 → r.kind ≢ 17 → r.kind ≢ 18 → r.kind ≢ 19 → Recorded h l r level h' l'
+  other_recorded a b c d = record { one = λ t q e' is. absurd (none-ne-some q (sym (kind_none r a b c d) ∙ e')) }
 
 -- ---- a put
 
@@ -95,7 +98,12 @@ module _ (t : Tables) (h l : List ℕ) (r : Parsed) {n : ℕ} (number : n ≡ nu
       let passed : ladder (request_checks t (set_of h) (level_at l) (some q)) ≡ 0 = rw e at (sym number ∙ zero) in
       declared_place t q (checks_passed t (set_of h) (level_at l) q passed).parties
 
-  -- it leaves what its recording leaves
+  -- a refused one leaves what there was
+  pub refused_leaves : n ≢ 0 → state h l ≡ recorded_if t (eqb n 0) (state h l) (as_request r)
+  unfolding recorded_if
+  refused_leaves other = rw (ne_eqb n 0 other)
+
+  -- a granted one leaves what its recording leaves
   pub granted_leaves : {h' l' : List ℕ} {level : ℕ} → n ≡ 0 → level ≡ (folder_at t (r.target % 128)).level.0 → Recorded h l r level h' l'
       → state h' l' ≡ recorded_if t (eqb n 0) (state h l) (as_request r)
   unfolding recorded_if

@@ -7,10 +7,13 @@ ghost use Rattle.std.specs.Prelude.{◌≡◌, cond, eqb};
 ghost use Rattle.policy.specs.Calls.{answers_due};
 ghost use Rattle.putting.specs.Running.{whole_end};
 
-use policy::numbers;
+use policy::GRANTED;
 
 pub mod alone;
 mod recording;
+
+// A run of fewer requests puts each alone, and gathers nothing for all persons.
+pub const FEW: usize = 8;
 
 // The answers that a run of the requests has: one for each record, and one for the unknown or cut record that ends it; and where the whole
 // records end.
@@ -26,25 +29,23 @@ pub fn extent_of(requests: &[u8]) -> Extent
 {
     let mut at: usize = 0;
     let mut due: usize = 0;
+    // Each record's own length tells where the next stands: no range or chunk of bytes gives these places.
     while at < requests.len() {
         let length = request::whole_length(&requests[at..]);
         due += 1;
         if length == 0 {
-            return Extent { due: due, end: at };
+            return Extent { due, end: at };
         }
         at += length;
     }
-    Extent { due: due, end: at }
+    Extent { due, end: at }
 }
 
-// 1 for the answer to a granted request, and 0 for any other.
+// 1 for the number of a granted request, and 0 for any other. A number, and no answer: a run that keeps has numbers (crate branchfree).
 pub fn granted_by(answer: u8) -> usize
     ensures { result ≡ cond (eqb answer 0) 1 0 }
 {
-    if answer == numbers::GRANTED {
-        return 1;
-    }
-    0
+    usize::from(answer == GRANTED)
 }
 
 // How far a run has come: where the next record stands, how many answers are written, and how many of them are grants.

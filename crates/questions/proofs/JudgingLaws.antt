@@ -20,8 +20,10 @@ use Rattle.policy.specs.Rules.{declared, wall, level_outcome, low_water, roles, 
 use Rattle.policy.specs.Calls.{outcome_number, request_checks}
 use Rattle.policy.proofs.Requests.{declared_person, declared_step, declared_folder}
 use Rattle.policy.proofs.OutcomeNumbers.{refusal_number}
-use Rattle.request.specs.Parsed.{access_by}
-use Rattle.questions.specs.Judging.{outcome_if, number_of, number_for, judged}
+use Rattle.request.specs.declared.Parsed.{Parsed}
+use Rattle.request.specs.Parsed.{access_by, as_request}
+use Rattle.request.proofs.KindLaws.{kind_none}
+use Rattle.questions.specs.Judging.{number_of, number_for, judged}
 
 pub implies_true : (b : Bool) → (b implies true) ≡ true
 implies_true true = refl
@@ -44,12 +46,6 @@ unfolding number_of ladder
 first_number mask w c =
     rw (implies_true (bit mask roles_rule), implies_true (bit mask pipeline_rule))
     (ap (λ (n : ℕ). cond (bit mask wall_rule implies w) n 14) (level_alone (bit mask low_water_rule) c))
-
--- low-water has no number for a request that it does not ask about
-pub not_asked : (on asks : Bool) (a b : ℕ) → asks ≡ false → cond on (outcome_number (outcome_if asks a b)) 0 ≡ 0
-unfolding outcome_if outcome_number
-not_asked true asks a b e = rw e
-not_asked false asks a b e = refl
 
 -- ---- check after check
 
@@ -163,3 +159,6 @@ module _ (t : Tables) (H : Request → Bool) (levels : ℕ → ℕ) where
   pub cut_number : {o : Option Request} → o ≡ none → 12 ≡ number_for t H levels o
   unfolding number_for request_checks ladder
   cut_number e = rw e
+
+  pub none_number : (r : Parsed) → r.kind ≢ 16 → r.kind ≢ 17 → r.kind ≢ 18 → r.kind ≢ 19 → 12 ≡ number_for t H levels (as_request r)
+  none_number r a b c d = cut_number (kind_none r a b c d)

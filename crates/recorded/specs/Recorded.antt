@@ -1,17 +1,10 @@
--- What the bytes of a history have of one person: a read, a write or a step of a folder, and a start; and the bounds within which these
--- and a folder's entry are read.
-use Rattle.std.specs.Prelude.{ℕ, ◌<◌, ◌≡◌, Bool, true, cond, ◌&&◌, ◌||◌, List, length}
+-- What the bytes of a history have of one person: a read, a write or a step of a folder, and a start; and the bounds of a folder's entry.
+use Rattle.std.specs.Prelude.{ℕ, ◌<◌, ◌≡◌, Bool, true, cond, ◌&&◌, ◌||◌, List}
 use Rattle.bits.specs.Bits.{bit, with_bit}
 use Rattle.bits.specs.Bounded.{any_below}
 use Rattle.policy.specs.declared.Folder.{Folder}
-use Rattle.policy.specs.History.{history_bytes, bit_at}
+use Rattle.policy.specs.History.{bit_at}
 use Rattle.policy.specs.Request.{read, write, start, step, index}
-
--- the history has its length, and the numbers of the person and the folder are in range
-pub record InBounds (h : List ℕ) (s o : ℕ) : Type 0 where
-  pub size : length h ≡ history_bytes
-  pub person : s < 64
-  pub folder : o < 128
 
 -- a declared folder's firm and kind are in range
 pub record EntryInBounds (e : Folder) : Type 0 where

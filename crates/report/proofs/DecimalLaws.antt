@@ -10,6 +10,8 @@ use mathlib.Core.Bool.{Bool, true, false}
 use lib.Dec.{ltb, lit<}
 use lib.ListN.{length, length-append}
 use borrow.Author.Tests.{lt-ltb, le-ltb, ltb-true, ltb-false}
+use Rattle.std.specs.Fmt as Printed
+use Rattle.std.proofs.lemmas.Fmt.{decimal_by_steps}
 use Rattle.report.specs.Text.{digits, decimal}
 
 tested : (n : ℕ) (b : Bool) → ltb n 10 ≡ b → (n < 10) ⊎ (10 ≤ n)
@@ -73,3 +75,10 @@ decimal_length n l = digits_length 19 n n (lt_trans l (lit< tt))
 pub byte_length : (n : ℕ) → n < 256 → length (decimal n) ≤ 3
 unfolding decimal
 byte_length n l = digits_length 2 n n (lt_trans l (lit< tt))
+
+-- ---- what a format prints of a number
+
+pub printed : (n : ℕ) → n < 2 ^ 64 → Printed.decimal n ≡ decimal n
+printed n l =
+    decimal_by_steps (λ (k : ℕ) (ds : List ℕ). ds ≡ decimal k) (λ k small. sym (decimal_small k small))
+    (λ k ds more front. ap (λ (s : List ℕ). s ++ ((48 + k % 10) ∷ [])) front ∙ sym (decimal_more k more)) n l

@@ -1,13 +1,15 @@
 -- What it takes to put texts into a buffer one after another: a text that starts where another ends makes one text with it, and a store is
 -- a text of one byte.
-use Prim.Native.Nat.{ℕ, suc, ◌+◌, ◌≤◌, ◌<◌}
+use Prim.Native.Nat.{ℕ, suc, ◌+◌, ◌-◌, ◌≤◌, ◌<◌}
 use native.Mathlib.Nat.{add_assoc}
 use native.Mathlib.Omega.{arith}
 use mathlib.Core.Path.{◌≡◌, refl, sym, ap, ◌∙◌}
 use mathlib.Core.List.{List, [], ◌∷◌, ◌++◌, append_assoc}
 use lib.ListN.{length, take, drop, set, length-append, length-drop}
-use lib.Seq.{length-take-le, append_snoc, take_at, drop_at, drop-drop, set_split, paste-zero}
 use borrow.Author.Tests.{lt-ltb, le-ltb}
+use borrow.Rule.Slice.PartMut.{put_mid}
+use Rattle.std.proofs.lemmas.Slice.{put_mid-paste}
+use lib.Seq.{take-length, length-take-le, append_snoc, take_at, drop_at, drop-drop, set_split, paste-zero}
 use Rattle.report.specs.Text.{written}
 use Rattle.report.specs.Put.{Put, taken, LinePut}
 
@@ -47,6 +49,14 @@ put_more {out} {middle} {after} {a} {b} {at} {between} {next} l p q =
       end = q.end ∙ rw (p.end, sum) (add_assoc at (length a) (length b));
       there = q.there ∙ rw (p.there, p.end) (written_append out at a b l);
     }
+
+-- a text copied into a part of the buffer
+pub put_copied : (out : List ℕ) (at : ℕ) (text : List ℕ) → at + length text ≤ length out
+    → Put out at text (put_mid at (at + length text - at) out text) (at + length text)
+unfolding written
+put_copied out at text room =
+    let size : length text ≡ at + length text - at = omega arith in
+    record { end = refl; there = put_mid-paste at (at + length text - at) out text text (length text) refl size refl ∙ rw take-length }
 
 pub put_one : (out : List ℕ) (at byte : ℕ) → at < length out → Put out at (byte ∷ []) (set out at byte) (at + 1)
 put_one out at byte l = record { end = refl; there = written_one out at byte l }

@@ -54,6 +54,14 @@ module _ (l : List ℕ) where
   unfolding record_length
   step_whole long e = some_whole (step (get_or l 1 0) (get_or l 2 0) (get_or l 3 0)) 4 (is_step_lem l (omega arith) e ∙ whole_step l long) refl
 
+  -- four bytes hold a record of each known kind
+  pub four_whole : 4 ≤ length l → 16 ≤ get_or l 0 0 → get_or l 0 0 ≤ 19 → 0 < whole_length l
+  four_whole long low high =
+      ⊎_elim
+      (λ k. omega (arith, step_whole long k))
+      (λ below. omega (arith, three_whole (omega arith) low (omega arith)))
+      (eq-or-lt_of_le high)
+
   module _ (more : ℕ) (is : more ≡ cond (eqb (get_or l 0 0) 19) 1 0) where
     more_step : get_or l 0 0 ≡ 19 → more ≡ 1
     more_step k = is ∙ rw (eq-eqb (get_or l 0 0) 19 k)

@@ -7,7 +7,8 @@ ghost use Rattle.policy.specs.Request.{start, step, index};
 ghost use Rattle.request.specs.Parsed.{access_by, as_request, whole_length, ParsedFrom};
 
 // A request as its record has it: the kind, the person, the folder or the second person, and the step, which is passed over unless the kind
-// is 19; and how far on the next record stands. Kind 0 stands for none: the kind is unknown or the record is cut.
+// is 19; and how far on the next record stands. Kind 0 stands for none: the kind is unknown or the record is cut. The kind is a number, and
+// neither an enum nor an `Option`: a run finds its row of numbers for the kind by it, with no jump (crate `branchfree`).
 #[derive(Clone, Copy)]
 pub struct Parsed {
     pub kind: u8,
@@ -30,7 +31,9 @@ fn nothing(left: usize) -> Parsed
     }
 }
 
-// The request in fewer than four bytes: a read, a write or a start of three bytes, or none.
+// The request in fewer than four bytes: a read, a write or a start of three bytes, or none. The kind is matched by ranges of its byte, here
+// and below, as document 01 names them, and not by `policy::Kind`: of variants inside an `Ok`, as in `Ok(Kind::Read | Kind::Write)`, a
+// proof is not told which it is.
 fn parse_short(bytes: &[u8]) -> Parsed
     requires { length bytes.now < 4 }
     ensures { ParsedFrom bytes.now result }
@@ -39,17 +42,15 @@ fn parse_short(bytes: &[u8]) -> Parsed
     if left < 3 {
         return nothing(left);
     }
-    let kind = bytes[0];
-    match kind {
-        16..=18 => Parsed {
-            kind: kind,
+    match bytes[0] {
+        kind @ 16..=18 => Parsed {
+            kind,
             person: bytes[1],
             target: bytes[2],
             step: 0,
             next: 3,
         },
-        0..=15 => nothing(left),
-        19..=255 => nothing(left),
+        _ => nothing(left),
     }
 }
 
@@ -59,8 +60,7 @@ fn longer(kind: u8) -> usize
 {
     match kind {
         19 => 1,
-        0..=18 => 0,
-        20..=255 => 0,
+        _ => 0,
     }
 }
 
@@ -73,20 +73,9 @@ pub fn parse(bytes: &[u8]) -> Parsed
     if left < 4 {
         return parse_short(bytes);
     }
-    let kind = bytes[0];
-    if kind < 16 {
-        return nothing(left);
-    }
-    if kind > 19 {
-        return nothing(left);
-    }
-    let more = longer(kind);
-    Parsed {
-        kind: kind,
-        person: bytes[1],
-        target: bytes[2 + more],
-        step: bytes[2],
-        next: 3 + more,
+    match bytes[0] {
+        16..=19 => parse_whole(bytes),
+        _ => nothing(left),
     }
 }
 
@@ -96,17 +85,18 @@ pub fn parse_whole(bytes: &[u8]) -> Parsed
     ensures { ParsedFrom bytes.now result × (15 < result.kind) × (result.kind < 20) }
 {
     let kind = bytes[0];
-    let extra = longer(kind);
+    let more = longer(kind);
     Parsed {
-        kind: kind,
+        kind,
         person: bytes[1],
-        target: bytes[2 + extra],
+        target: bytes[2 + more],
         step: bytes[2],
-        next: 3 + extra,
+        next: 3 + more,
     }
 }
 
-// The length of the record at the front of the bytes; 0 where it is unknown or cut.
+// The length of the record at the front of the bytes; 0 where it is unknown or cut, so that `putting::extent_of` adds it up at once. (A 0
+// and no `None`: the clause says that the definition `whole_length` is the answer, and other crates' theorems stand on it.)
 pub fn whole_length(bytes: &[u8]) -> usize
     ensures { result ≡ whole_length bytes.now }
 {
@@ -114,12 +104,10 @@ pub fn whole_length(bytes: &[u8]) -> usize
     if left < 3 {
         return 0;
     }
-    let kind = bytes[0];
-    match kind {
+    match bytes[0] {
         16..=18 => 3,
         19 => if left < 4 { 0 } else { 4 },
-        0..=15 => 0,
-        20..=255 => 0,
+        _ => 0,
     }
 }
 

@@ -1,6 +1,6 @@
 -- Little-endian numbers in the bytes from a position on, which may run past the end: the first byte, and 256 times the number in the
 -- others. By induction this gives the sums that the code adds up.
-use Prim.Native.Nat.{ℕ, suc, ◌+◌, ◌*◌}
+use Prim.Native.Nat.{ℕ, suc, ◌+◌, ◌*◌, ◌^◌}
 use native.Mathlib.Nat.{add-zero}
 use native.Mathlib.Omega.{arith}
 use mathlib.Core.List.{List, [], ◌∷◌}
@@ -28,28 +28,27 @@ no_bytes at s = refl
 pub two_bytes : (at : ℕ) (s : List ℕ) → little_endian (take 2 (drop at s)) ≡ get_or s at 0 + 256 * get_or s (at + 1) 0
 two_bytes at s = omega (arith, byte_at 1 at s, byte_at 0 (at + 1) s, no_bytes (at + 1 + 1) s)
 
--- two bytes, and 65536 times the number in the others
-pair_at : (n at : ℕ) (s : List ℕ)
-    → little_endian (take (suc (suc n)) (drop at s))
-    ≡ little_endian (take 2 (drop at s)) + 65536 * little_endian (take n (drop (at + 2) s))
-pair_at n at s =
-    let after : at + 1 + 1 ≡ at + 2 = omega arith in
-    let others : little_endian (take n (drop (at + 1 + 1) s)) ≡ little_endian (take n (drop (at + 2) s)) =
-    ap (λ (i : ℕ). little_endian (take n (drop i s))) after in
-    omega (arith, byte_at (suc n) at s, byte_at n (at + 1) s, two_bytes at s, others)
+-- the byte at a distance, and 256 times the number in the others
+byte_on : (n at i : ℕ) (s : List ℕ)
+    → little_endian (take (suc n) (drop (at + i) s)) ≡ get_or s (at + i) 0 + 256 * little_endian (take n (drop (at + suc i) s))
+byte_on n at i s =
+    byte_at n (at + i) s
+    ∙ ap (λ (k : ℕ). get_or s (at + i) 0 + 256 * little_endian (take n (drop k s))) (omega arith)
 
 pub eight_bytes : (at : ℕ) (s : List ℕ)
     → little_endian (take 8 (drop at s))
-    ≡ little_endian (take 2 (drop at s)) + 65536 * little_endian (take 2 (drop (at + 2) s))
-    + 4294967296 * little_endian (take 2 (drop (at + 4) s)) + 281474976710656 * little_endian (take 2 (drop (at + 6) s))
+    ≡ get_or s at 0 + 256 * get_or s (at + 1) 0 + 256 ^ 2 * get_or s (at + 2) 0 + 256 ^ 3 * get_or s (at + 3) 0
+    + 256 ^ 4 * get_or s (at + 4) 0 + 256 ^ 5 * get_or s (at + 5) 0 + 256 ^ 6 * get_or s (at + 6) 0 + 256 ^ 7 * get_or s (at + 7) 0
 eight_bytes at s =
-    let from : (n i j : ℕ) → i ≡ j → little_endian (take n (drop i s)) ≡ little_endian (take n (drop j s)) =
-    λ n i j e. ap (λ (k : ℕ). little_endian (take n (drop k s))) e in
     omega (
       arith,
-      pair_at 6 at s,
-      pair_at 4 (at + 2) s,
-      pair_at 2 (at + 4) s,
-      from 4 (at + 2 + 2) (at + 4) (omega arith),
-      from 2 (at + 4 + 2) (at + 6) (omega arith),
+      byte_at 7 at s,
+      byte_on 6 at 1 s,
+      byte_on 5 at 2 s,
+      byte_on 4 at 3 s,
+      byte_on 3 at 4 s,
+      byte_on 2 at 5 s,
+      byte_on 1 at 6 s,
+      byte_on 0 at 7 s,
+      no_bytes (at + 8) s,
     )

@@ -1,30 +1,15 @@
--- The checks of a record in which the tables have no part, in their order: the number that the first failing one gives, and what a reading
--- with that number says.
+-- The checks of a record in which the tables have no part, in their order: the number that the first failing one gives.
 use Prim.Native.Nat.{ℕ, ◌+◌, ◌-◌, ◌≤◌, ◌<◌}
 use native.Mathlib.Omega.{arith}
 use mathlib.Core.Bool.{Bool, true, false, cond, beq}
 use mathlib.Core.List.{List}
-use mathlib.Core.Path.{◌≡◌, sym, ap, ◌∙◌}
+use mathlib.Core.Path.{◌≡◌}
 use lib.Dec.{eqb}
 use lib.ListN.{length, get_or, drop, length-drop}
-use borrow.Author.Tests.{lt-ltb, le-ltb, le-leb, lt-leb, eqb-false}
+use borrow.Author.Tests.{lt-ltb, le-ltb, le-leb, lt-leb}
 use Rattle.policy.specs.Checks.{ladder}
 use Rattle.policy.specs.Rulebook.{last_kind, body_length, record_of, in_range}
-use Rattle.rulebook.specs.declared.records.Reading.{Reading}
-use Rattle.rulebook.specs.Readings.{Started, form_checks, form_number, ReadAt}
-use Rattle.rulebook.proofs.KindLaws.{is_end}
-
--- a refused record
-pub refusal : {book : List ℕ} {at : ℕ} {r : Reading} (n : ℕ)
-    → eqb n 0 ≡ false → Started n 0 0 0 r → n ≡ form_number book at → ReadAt book at r
-unfolding in_range
-refusal {r = r} n other blank e =
-    record {
-      number = blank.number ∙ e;
-      inside = ap in_range (is_end r blank.same_kind);
-      passed = λ k z. absurd (omega (arith, z, blank.same_kind));
-      whole = λ z. absurd (eqb-false n 0 other (sym blank.number ∙ z));
-    }
+use Rattle.rulebook.specs.Readings.{form_checks, form_number}
 
 pub no_byte : (book : List ℕ) (at : ℕ) → length book ≤ at → 1 ≡ form_number book at
 unfolding form_number

@@ -1,4 +1,4 @@
-pub mod TurnLaws
+pub mod ListLaws
 pub mod MapLaws
 pub mod StepLaws
 pub mod ByteLaws

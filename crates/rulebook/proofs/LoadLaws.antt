@@ -3,24 +3,51 @@
 use Prim.Native.Nat.{ℕ, zero, suc, ◌+◌, ◌-◌, ◌≤◌, ◌<◌}
 use native.Mathlib.Numerals.{add-one}
 use native.Mathlib.Omega.{arith}
-use mathlib.Core.Bool.{false, cond}
-use mathlib.Core.List.{List}
-use mathlib.Core.Logic.{◌⊎◌, inl, inr, ⊎_elim}
-use mathlib.Core.Path.{◌≡◌, refl, sym, ap, ◌∙◌, subst, subst₂}
+use mathlib.Core.Bool.{cond, not}
+use mathlib.Core.List.{List, [], ◌∷◌}
+use mathlib.Core.Logic.{⊎_elim}
+use mathlib.Core.Path.{◌≡◌, refl, sym, ap, ◌∙◌, subst₂}
 use lib.Dec.{eqb, ltb}
 use lib.ListN.{length, get_or, drop, drop_of_length-le}
 use lib.Seq.{drop-cons, drop-drop}
-use borrow.Author.Tests.{lt-ltb, le-ltb, ltb-true, ltb-false, eqb-true, eq-eqb, ne_eqb}
+use borrow.Author.Tests.{lt-ltb, le-ltb, ltb-true, ltb-false, eq-eqb, ne_eqb}
 use Rattle.bits.proofs.Booleans.{decide}
+use Rattle.policy.specs.declared.answer.Refusal.{Refusal}
+use Rattle.policy.specs.declared.answer.Refusal.TheVariants.{
+  BookCut,
+  UnknownKind,
+  MisplacedRules,
+  OutOfRange,
+  DeclaredBefore,
+  FirmNotDeclared,
+  EntersCreate,
+  Circle,
+  LooseStep,
+  WrongLength,
+  NotGiven,
+  RequestCut,
+  Undeclared,
+  Wall,
+  RankTooLow,
+  Roles,
+  Pipeline,
+  TooFewAnswers,
+  FolderNotDeclared,
+  WrongLevelsLength,
+  CompartmentMissing,
+  NotPlannable,
+  NoOrder,
+}
+use Rattle.policy.specs.Refusals.{refusal_number}
 use Rattle.policy.specs.declared.Tables.{Tables}
 use Rattle.policy.specs.Tables.{empty_tables}
-use Rattle.policy.specs.Checks.{ladder}
-use Rattle.policy.specs.Rulebook.{Record, body_length, record_of, declare, end_checks, refused_book, ended, load_from, load_book}
+use Rattle.policy.specs.Checks.{◌else◌, ladder}
+use Rattle.policy.specs.Rulebook.{Record, end, body_length, record_of, declare, refused_book, ended, load_from, load_book}
 use Rattle.rulebook.specs.declared.records.Reading.{Reading}
-use Rattle.rulebook.specs.Readings.{record_read, WholeRead, ReadAt, number_of, number_at, passed_book}
-use Rattle.rulebook.specs.Steps.{end_number}
-use Rattle.rulebook.proofs.NumberLaws.{number_is, other_number, read_whole}
-use Rattle.rulebook.proofs.StepLaws.{end_number_is}
+use Rattle.rulebook.specs.Readings.{record_read, kind_of, form_number, ReadAt, table_number, number_at}
+use Rattle.rulebook.specs.Steps.{circle_in, loose_in}
+use Rattle.rulebook.proofs.NumberLaws.{number_is, refused_number, end_number}
+use Rattle.rulebook.proofs.StepLaws.{end_is}
 
 -- some number of turns over the bytes from an offset on, after the tables t, gives what the whole book gives
 pub record Left (book : List ℕ) (at : ℕ) (t : Tables) : Type 0 where
@@ -81,93 +108,78 @@ module _ (book : List ℕ) (at : ℕ) (t : Tables) where
 
 -- ---- a turn of the loop
 
-module _ {book : List ℕ} {at : ℕ} {t : Tables} {r : Reading} {n : ℕ}
-    (left : Left book at t) (read : ReadAt book at r) (is : n ≡ number_of t r) where
-  number : n ≡ number_at book at t
-  number = is ∙ number_is book at t r read
+-- no refusal has the number 0
+pub refuses_some : (refusal : Refusal) → refusal_number refusal ≡ 0 → ⊥
+refuses_some = elim [
+  | BookCut ↦ λ z. omega (arith, z)
+  | UnknownKind ↦ λ z. omega (arith, z)
+  | MisplacedRules ↦ λ z. omega (arith, z)
+  | OutOfRange ↦ λ z. omega (arith, z)
+  | DeclaredBefore ↦ λ z. omega (arith, z)
+  | FirmNotDeclared ↦ λ z. omega (arith, z)
+  | EntersCreate ↦ λ z. omega (arith, z)
+  | Circle ↦ λ z. omega (arith, z)
+  | LooseStep ↦ λ z. omega (arith, z)
+  | WrongLength ↦ λ z. omega (arith, z)
+  | NotGiven ↦ λ z. omega (arith, z)
+  | RequestCut ↦ λ z. omega (arith, z)
+  | Undeclared ↦ λ z. omega (arith, z)
+  | Wall ↦ λ z. omega (arith, z)
+  | RankTooLow ↦ λ z. omega (arith, z)
+  | Roles ↦ λ z. omega (arith, z)
+  | Pipeline ↦ λ z. omega (arith, z)
+  | TooFewAnswers ↦ λ z. omega (arith, z)
+  | FolderNotDeclared ↦ λ z. omega (arith, z)
+  | WrongLevelsLength ↦ λ z. omega (arith, z)
+  | CompartmentMissing ↦ λ z. omega (arith, z)
+  | NotPlannable ↦ λ z. omega (arith, z)
+  | NoOrder ↦ λ z. omega (arith, z)
+]
 
-  pub refused_is : (n ≡ 0 → ⊥) → refused_book n at ≡ load_book book
-  refused_is z =
+-- a record that is refused without the tables
+pub refused_by_form : {book : List ℕ} {at : ℕ} {t : Tables} {n : ℕ} → Left book at t → n ≡ form_number book at → (n ≡ 0 → ⊥)
+    → refused_book n at ≡ load_book book
+refused_by_form {book} {at} {t} left is z =
+    let number = refused_number book at is z t in
+    ap (λ (m : ℕ). refused_book m at) number ∙ sym (refuses book at t left.turns left.enough (λ e. z (number ∙ e))) ∙ left.same
+
+module _ {book : List ℕ} {at : ℕ} {t : Tables} {r : Reading} (left : Left book at t) (read : ReadAt book at r) where
+  pub refused_is : {n : ℕ} → n ≡ table_number t (record_read r.found) → (n ≡ 0 → ⊥) → refused_book n at ≡ load_book book
+  refused_is is z =
+      let number = is ∙ number_is read t in
       ap (λ (m : ℕ). refused_book m at) number
       ∙ sym (refuses book at t left.turns left.enough (λ e. z (number ∙ e)))
       ∙ left.same
 
-  module _ (z : n ≡ 0) where
-    pub whole : WholeRead book at r
-    whole = read_whole book at t r read (sym is ∙ z)
+  pub less : length book - r.next < length book - at
+  less = omega (arith, read.there, read.next)
 
-    passed : number_at book at t ≡ 0
-    passed = sym number ∙ z
+  module _ (z : table_number t (record_read r.found) ≡ 0) where
+    none_at : number_at book at t ≡ 0
+    none_at = sym (number_is read t) ∙ z
 
-    pub ended_is : r.kind ≡ 0 → ended at t ≡ load_book book
+    ended_is : kind_of (record_read r.found) ≡ 0 → ended at t ≡ load_book book
     unfolding kind
     ended_is e =
-        sym (ends book at t whole.there passed left.turns left.enough (sym whole.same_kind ∙ e)) ∙ left.same
+        sym (ends book at t read.there none_at left.turns left.enough (sym read.same_kind ∙ e)) ∙ left.same
 
-    goes_on : (r.kind ≡ 0 → ⊥) → Left book r.next (declare t (record_read r))
+    pub goes_on : (kind_of (record_read r.found) ≡ 0 → ⊥) → Left book r.next (declare t (record_read r.found))
     unfolding kind body
     goes_on e =
-        subst₂ (λ (i : ℕ) (x : Record). Left book i (declare t x)) (sym whole.next) (sym whole.same)
-        (goes book at t whole.there passed left.turns left.enough left.same (λ k. e (whole.same_kind ∙ k)))
+        subst₂ (λ (i : ℕ) (y : Record). Left book i (declare t y)) (sym read.next) (sym read.same)
+        (goes book at t read.there none_at left.turns left.enough left.same (λ k. e (read.same_kind ∙ k)))
 
-    -- the tables with a record of a kind that is not 0
-    pub goes_by : (k : ℕ) (x : Record) → r.kind ≡ suc k → record_read r ≡ x → Left book r.next (declare t x)
-    goes_by k x e same = subst (λ (y : Record). Left book r.next (declare t y)) same (goes_on (λ z. omega arith))
-
-    pub less : length book - r.next < length book - at
-    less = omega (arith, whole.there, whole.next)
+  -- the end record asks nothing of the tables before its own checks
+  pub ended_by : record_read r.found ≡ end → ended at t ≡ load_book book
+  ended_by e = ended_is (ap (table_number t) e ∙ sym (end_number t)) (ap kind_of e)
 
 -- ---- the checks of the end record
 
--- the number of a reading: at the end record that of its checks, and else that of the record
-abbrev pub Asked : Tables → Reading → ℕ → Type 0
-Asked t r n = ((r.kind ≡ 0 → ⊥) × (n ≡ number_of t r)) ⊎ ((r.kind ≡ 0) × (n ≡ end_number r.number t.steps))
-
--- a record of a kind that is not 0
-pub asks : (t : Tables) (r : Reading) {n : ℕ} → (r.kind ≡ 0 → ⊥) → n ≡ number_of t r → Asked t r n
-asks t r other is = inl (other, is)
-
--- the end record
-pub asks_end : (t : Tables) (r : Reading) {n : ℕ} → r.kind ≡ 0 → n ≡ end_number r.number t.steps → Asked t r n
-asks_end t r end is = inr (end, is)
-
-module _ (t : Tables) (r : Reading) where
-  -- the end record asks nothing of the tables before its own checks
-  own_number : r.kind ≡ 0 → number_of t r ≡ r.number
-  own_number e =
-      let no : (k : ℕ) → 0 ≡ suc k → ⊥ = λ k z. omega (arith, z) in
-      sym (other_number t r 0 e (no 1) (no 2) (no 3) (no 4) (no 5) (no 6))
-
-  -- where the end record has no number of its own, its checks decide
-  checks_decide : {n : ℕ} → n ≡ end_number r.number t.steps → r.number ≡ 0 → ladder (end_checks t) ≡ n
-  checks_decide is none = sym (is ∙ end_number_is t r.number ∙ rw (eq-eqb _ _ none))
-
-  own_decides : {n : ℕ} → n ≡ end_number r.number t.steps → eqb r.number 0 ≡ false → r.number ≡ n
-  own_decides is some = sym (is ∙ end_number_is t r.number ∙ rw some)
-
-module _ {book : List ℕ} {at : ℕ} {t : Tables} {r : Reading} {n : ℕ} (left : Left book at t) (read : ReadAt book at r) where
-  pub passes : Asked t r n → n ≡ 0 → number_of t r ≡ 0
-  passes (inl (k, is)) z = sym is ∙ z
-  passes (inr (k, is)) z =
-      own_number t r k ∙ ⊎_elim (λ e. eqb-true _ _ e) (λ f. own_decides t r is f ∙ z) (decide (eqb r.number 0))
-
-  pub refused_by : Asked t r n → (n ≡ 0 → ⊥) → refused_book n at ≡ load_book book
+module _ (at : ℕ) (t : Tables) {n : ℕ} (is : n ≡ ladder ((not (circle_in t.steps) else 8) ∷ (not (loose_in t.steps) else 9) ∷ [])) where
+  pub ended_refused : (n ≡ 0 → ⊥) → ended at t ≡ refused_book n at
   unfolding ended
-  refused_by (inl (k, is)) z = refused_is left read is z
-  refused_by (inr (k, is)) z =
-      ⊎_elim
-      (λ e.
-      let none = eqb-true _ _ e in
-      let decided = checks_decide t r is none in
-      let refuses : ended at t ≡ refused_book n at = rw (decided, ne_eqb _ _ z) in
-      sym refuses ∙ ended_is left read refl (own_number t r k ∙ none) k)
-      (λ f. refused_is left read (sym (own_number t r k ∙ own_decides t r is f)) z)
-      (decide (eqb r.number 0))
+  ended_refused z = rw (← is ∙ end_is t, ne_eqb _ _ z)
 
-  pub ended_by : Asked t r n → n ≡ 0 → r.kind ≡ 0 → passed_book at t ≡ load_book book
-  unfolding ended passed_book
-  ended_by (inl (k, is)) z e = absurd (k e)
-  ended_by (inr (k, is)) z e =
-      let none = sym (own_number t r k) ∙ passes (inr (k, is)) z in
-      let passed : ended at t ≡ passed_book at t = rw (checks_decide t r is none ∙ z) in
-      sym passed ∙ ended_is left read refl (own_number t r k ∙ none) k
+  pub ended_passed : n ≡ 0 → ended at t ≡ record { number = 0; offset = at; tables = t }
+  unfolding ended
+  ended_passed z = rw (← is ∙ end_is t, z)

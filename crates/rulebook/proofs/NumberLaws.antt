@@ -1,13 +1,13 @@
--- The number of a record: at the numbers of a reading the code asks of the tables what the definition asks of them, and the checks without
+-- The number of a record: at the record's numbers the code asks of the tables what the definition asks of them, and the checks without
 -- the tables come before those on them. So the number that the code computes is the one of the definition.
-use Prim.Native.Nat.{ℕ, zero, suc, ◌+◌, ◌%◌, ◌<◌}
+use Prim.Native.Nat.{ℕ, ◌+◌, ◌%◌, ◌<◌}
 use native.Mathlib.Omega.{arith}
 use mathlib.Core.Bool.{Bool, true, false, cond, not, ◌&&◌, beq}
 use mathlib.Core.List.{List, [], ◌∷◌}
 use mathlib.Core.Path.{◌≡◌, refl, sym, ap, ◌∙◌}
 use lib.Dec.{eqb, ltb, leb}
 use lib.ListN.{length, get_or, drop}
-use borrow.Author.Tests.{lt-ltb, leb-true, eq-eqb, eqb-true}
+use borrow.Author.Tests.{lt-ltb, leb-true, eq-eqb, ne_eqb}
 use Rattle.bits.specs.Bits.{bit}
 use Rattle.bits.proofs.Booleans.{and_left, and_right}
 use Rattle.policy.specs.declared.Tables.{Tables}
@@ -27,6 +27,14 @@ use Rattle.policy.specs.Tables.{
 }
 use Rattle.policy.specs.Rulebook.{
   Record,
+  end,
+  rules,
+  firm,
+  person,
+  folder,
+  role,
+  pair,
+  public,
   last_kind,
   body_length,
   record_of,
@@ -38,107 +46,90 @@ use Rattle.policy.specs.Rulebook.{
   record_checks,
 }
 use Rattle.rulebook.specs.declared.records.Reading.{Reading}
-use Rattle.rulebook.specs.Readings.{record_read, form_checks, form_number, WholeRead, ReadAt, table_checks, number_of, number_at}
-use Rattle.rulebook.proofs.TurnLaws.{within}
-use Rattle.rulebook.proofs.KindLaws.{is_past, is_end, is_rules_lem, is_firm, is_person, is_folder, is_role, is_pair, is_public_lem}
+use Rattle.rulebook.specs.Readings.{record_read, form_checks, form_number, ReadAt, table_checks, table_number, number_at}
+use Rattle.rulebook.proofs.ListLaws.{within}
 
--- ---- the ranges of a reading, by its kind
+-- ---- the ranges of a record, by its kind
 
 up_to : (n m : ℕ) → leb n m ≡ true → n < m + 1
 up_to n m h = omega (arith, leb-true n m h)
 
-module _ (r : Reading) (inside : in_range (record_read r) ≡ true) where
-  all_inside : {x : Record} → record_read r ≡ x → in_range x ≡ true
-  all_inside e = ap in_range (sym e) ∙ inside
+pub firm_inside : (f class : ℕ) → in_range (firm f class) ≡ true → f < 64
+unfolding in_range
+firm_inside f class inside = up_to f 63 (and_left (leb f 63) (leb class 31) inside)
 
-  pub firm_inside : r.kind ≡ 2 → r.first < 64
-  unfolding in_range
-  firm_inside e = up_to r.first 63 (and_left (leb r.first 63) (leb r.second 31) (all_inside (is_firm r e)))
+pub person_inside : (s level : ℕ) → in_range (person s level) ≡ true → s < 64
+unfolding in_range
+person_inside s level inside = up_to s 63 inside
 
-  pub person_inside : r.kind ≡ 3 → r.first < 64
-  unfolding in_range
-  person_inside e = up_to r.first 63 (all_inside (is_person r e))
+pub folder_inside : (o f kind level : ℕ) → in_range (folder o f kind level) ≡ true → o < 128
+unfolding in_range
+folder_inside o f kind level inside =
+    up_to o 127 (and_left (leb o 127) (leb f 63) (and_left (leb o 127 && leb f 63) (leb kind 15) inside))
 
-  numbers_inside : r.kind ≡ 4 → leb r.first 127 && leb r.second 63 ≡ true
-  unfolding in_range
-  numbers_inside e = and_left (leb r.first 127 && leb r.second 63) (leb r.third 15) (all_inside (is_folder r e))
+pub owner_inside : (o f kind level : ℕ) → in_range (folder o f kind level) ≡ true → f < 64
+unfolding in_range
+owner_inside o f kind level inside =
+    up_to f 63 (and_right (leb o 127) (leb f 63) (and_left (leb o 127 && leb f 63) (leb kind 15) inside))
 
-  pub folder_inside : r.kind ≡ 4 → r.first < 128
-  folder_inside e = up_to r.first 127 (and_left (leb r.first 127) (leb r.second 63) (numbers_inside e))
+pub role_inside : (k rights : ℕ) → in_range (role k rights) ≡ true → k < 32
+unfolding in_range
+role_inside k rights inside = up_to k 31 inside
 
-  pub owner_inside : r.kind ≡ 4 → r.second < 64
-  owner_inside e = up_to r.second 63 (and_right (leb r.first 127) (leb r.second 63) (numbers_inside e))
+pub step_inside : (p q : ℕ) → in_range (pair p q) ≡ true → p < 16
+unfolding in_range
+step_inside p q inside = up_to p 15 (and_left (leb p 15) (leb q 15) inside)
 
-  pub role_inside : r.kind ≡ 5 → r.first < 32
-  unfolding in_range
-  role_inside e = up_to r.first 31 (all_inside (is_role r e))
+pub enabled_inside : (p q : ℕ) → in_range (pair p q) ≡ true → q < 16
+unfolding in_range
+enabled_inside p q inside = up_to q 15 (and_right (leb p 15) (leb q 15) inside)
 
-  pub step_inside : r.kind ≡ 6 → r.first < 16
-  unfolding in_range
-  step_inside e = up_to r.first 15 (and_left (leb r.first 15) (leb r.second 15) (all_inside (is_pair r e)))
+pub public_inside : (o : ℕ) → in_range (public o) ≡ true → o < 128
+unfolding in_range
+public_inside o inside = up_to o 127 inside
 
-  pub enabled_inside : r.kind ≡ 6 → r.second < 16
-  unfolding in_range
-  enabled_inside e = up_to r.second 15 (and_right (leb r.first 15) (leb r.second 15) (all_inside (is_pair r e)))
+-- ---- the number of a record by the tables, kind by kind
 
-  pub public_inside : r.kind ≡ 7 → r.first < 128
-  unfolding in_range
-  public_inside e = up_to r.first 127 (all_inside (is_public_lem r e))
-
--- ---- the number of a reading, by its kind
-
-module _ (t : Tables) (r : Reading) where
-  -- the tables have no part
-  free : {x : Record} → record_read r ≡ x → ladder (table_checks t x) ≡ 0 → r.number ≡ number_of t r
-  unfolding number_of
-  free e z = by (eqb r.number 0) refl ∙ ap (λ (m : ℕ). cond (eqb r.number 0) m r.number) (sym (rw e z))
-    where
-      by : (b : Bool) → eqb r.number 0 ≡ b → r.number ≡ cond b 0 r.number
-      by true e = eqb-true _ _ e
-      by false e = refl
-
+module _ (t : Tables) where
   -- the kinds that ask nothing of the tables
-  pub other_number : (k : ℕ) → r.kind ≡ k → (k ≡ 2 → ⊥) → (k ≡ 3 → ⊥) → (k ≡ 4 → ⊥)
-      → (k ≡ 5 → ⊥) → (k ≡ 6 → ⊥) → (k ≡ 7 → ⊥)
-      → r.number ≡ number_of t r
-  unfolding table_checks declared_before firm_stands folder_stands enters_create ladder
-  other_number zero e n2 n3 n4 n5 n6 n7 = free (is_end r e) refl
-  other_number (suc zero) e n2 n3 n4 n5 n6 n7 = free (is_rules_lem r e) refl
-  other_number (suc (suc k)) e n2 n3 n4 n5 n6 n7 = free (is_past r (omega arith)) refl
+  pub end_number : 0 ≡ table_number t end
+  unfolding table_number table_checks declared_before firm_stands folder_stands enters_create ladder
+  end_number = refl
 
-  module _ {book : List ℕ} {at : ℕ} (read : ReadAt book at r) where
-    asked : {k : ℕ} {x : Record} → r.kind ≡ suc k → record_read r ≡ x → ladder (table_checks t x) ≡ number_of t r
-    unfolding number_of
-    asked {k} e same = rw (eq-eqb _ _ (read.passed k e), same)
+  pub rules_number : (mask : ℕ) → 0 ≡ table_number t (rules mask)
+  unfolding table_number table_checks declared_before firm_stands folder_stands enters_create ladder
+  rules_number mask = refl
 
-    pub firm_number : r.kind ≡ 2 → ladder ((not (firm_at t r.first).declared else 5) ∷ []) ≡ number_of t r
-    unfolding table_checks declared_before firm_stands folder_stands enters_create firm_declared ladder
-    firm_number e = rw (lt-ltb _ _ (firm_inside r read.inside e)) at (asked e (is_firm r e))
+  pub firm_number : (f class : ℕ) → in_range (firm f class) ≡ true
+      → ladder ((not (firm_at t f).declared else 5) ∷ []) ≡ table_number t (firm f class)
+  unfolding table_number table_checks declared_before firm_stands folder_stands enters_create firm_declared ladder
+  firm_number f class inside = rw (lt-ltb _ _ (firm_inside f class inside))
 
-    pub person_number : r.kind ≡ 3 → ladder ((not (person_at t r.first).declared else 5) ∷ []) ≡ number_of t r
-    unfolding table_checks declared_before firm_stands folder_stands enters_create person_declared ladder
-    person_number e = rw (lt-ltb _ _ (person_inside r read.inside e)) at (asked e (is_person r e))
+  pub person_number : (s level : ℕ) → in_range (person s level) ≡ true
+      → ladder ((not (person_at t s).declared else 5) ∷ []) ≡ table_number t (person s level)
+  unfolding table_number table_checks declared_before firm_stands folder_stands enters_create person_declared ladder
+  person_number s level inside = rw (lt-ltb _ _ (person_inside s level inside))
 
-    pub folder_number : r.kind ≡ 4
-        → ladder ((not (folder_at t r.first).declared else 5) ∷ ((firm_at t r.second).declared else 6) ∷ []) ≡ number_of t r
-    unfolding table_checks declared_before firm_stands folder_stands enters_create folder_declared firm_declared ladder
-    folder_number e =
-        let i = read.inside in
-        rw (lt-ltb _ _ (folder_inside r i e), lt-ltb _ _ (owner_inside r i e)) at (asked e (is_folder r e))
+  pub folder_number : (o f kind level : ℕ) → in_range (folder o f kind level) ≡ true
+      → ladder ((not (folder_at t o).declared else 5) ∷ ((firm_at t f).declared else 6) ∷ []) ≡ table_number t (folder o f kind level)
+  unfolding table_number table_checks declared_before firm_stands folder_stands enters_create folder_declared firm_declared ladder
+  folder_number o f kind level inside =
+      rw (lt-ltb _ _ (folder_inside o f kind level inside), lt-ltb _ _ (owner_inside o f kind level inside))
 
-    pub role_number : r.kind ≡ 5 → ladder ((not (role_at t r.first).declared else 5) ∷ []) ≡ number_of t r
-    unfolding table_checks declared_before firm_stands folder_stands enters_create role_declared ladder
-    role_number e = rw (lt-ltb _ _ (role_inside r read.inside e)) at (asked e (is_role r e))
+  pub role_number : (k rights : ℕ) → in_range (role k rights) ≡ true
+      → ladder ((not (role_at t k).declared else 5) ∷ []) ≡ table_number t (role k rights)
+  unfolding table_number table_checks declared_before firm_stands folder_stands enters_create role_declared ladder
+  role_number k rights inside = rw (lt-ltb _ _ (role_inside k rights inside))
 
-    pub pair_number : r.kind ≡ 6
-        → ladder ((not (bit (enabled_by t r.first) (r.second % 16)) else 5) ∷ (not (eqb r.second 0) else 7) ∷ []) ≡ number_of t r
-    unfolding table_checks declared_before firm_stands folder_stands enters_create enables ladder
-    pair_number e = rw (within (bit (enabled_by t r.first)) r.second 16 (enabled_inside r read.inside e)) (asked e (is_pair r e))
+  pub pair_number : (p q : ℕ) → in_range (pair p q) ≡ true
+      → ladder ((not (bit (enabled_by t p) (q % 16)) else 5) ∷ (not (eqb q 0) else 7) ∷ []) ≡ table_number t (pair p q)
+  unfolding table_number table_checks declared_before firm_stands folder_stands enters_create enables ladder
+  pair_number p q inside = rw (within (bit (enabled_by t p)) q 16 (enabled_inside p q inside))
 
-    pub mark_number : r.kind ≡ 7
-        → ladder ((not (is_public t r.first) else 5) ∷ ((folder_at t r.first).declared else 19) ∷ []) ≡ number_of t r
-    unfolding table_checks declared_before firm_stands folder_stands enters_create folder_declared ladder
-    mark_number e = rw (lt-ltb _ _ (public_inside r read.inside e)) at (asked e (is_public_lem r e))
+  pub mark_number : (o : ℕ) → in_range (public o) ≡ true
+      → ladder ((not (is_public t o) else 5) ∷ ((folder_at t o).declared else 19) ∷ []) ≡ table_number t (public o)
+  unfolding table_number table_checks declared_before firm_stands folder_stands enters_create folder_declared ladder
+  mark_number o inside = rw (lt-ltb _ _ (public_inside o inside))
 
 -- ---- all checks
 
@@ -180,23 +171,14 @@ split_number book at t = by (ltb at (length book))
         (in_range (record_of kind body)) (table_checks t (record_of kind body))
     by false = refl
 
-same_where : (b : Bool) (x y z : ℕ) → (b ≡ true → x ≡ y) → cond b x z ≡ cond b y z
-same_where true x y z h = h refl
-same_where false x y z h = refl
+-- a record that passes the checks without the tables: those on them decide
+pub number_is : {book : List ℕ} {at : ℕ} {r : Reading} → ReadAt book at r → (t : Tables)
+    → table_number t (record_read r.found) ≡ number_at book at t
+unfolding table_number
+number_is {book} {at} read t =
+    ap (λ (x : Record). ladder (table_checks t x)) read.same
+    ∙ sym (split_number book at t ∙ rw (eq-eqb _ _ (sym read.number)))
 
-pub number_is : (book : List ℕ) (at : ℕ) (t : Tables) (r : Reading) → ReadAt book at r → number_of t r ≡ number_at book at t
-unfolding number_of
-number_is book at t r read =
-    ap (λ (n : ℕ). cond (eqb n 0) (ladder (table_checks t (record_read r))) n) read.number
-    ∙ same_where (eqb (form_number book at) 0) (ladder (table_checks t (record_read r))) _ (form_number book at)
-    (λ z. ap (λ (x : Record). ladder (table_checks t x)) (read.whole (read.number ∙ eqb-true _ _ z)).same)
-    ∙ sym (split_number book at t)
-
--- a reading with the number 0 is of a whole record
-pub read_whole : (book : List ℕ) (at : ℕ) (t : Tables) (r : Reading) → ReadAt book at r → number_of t r ≡ 0 → WholeRead book at r
-unfolding number_of
-read_whole book at t r read z = read.whole (by (eqb r.number 0) refl z)
-  where
-    by : (b : Bool) → eqb r.number 0 ≡ b → cond b (ladder (table_checks t (record_read r))) r.number ≡ 0 → r.number ≡ 0
-    by true e h = eqb-true _ _ e
-    by false e h = h
+-- a record that does not
+pub refused_number : {n : ℕ} (book : List ℕ) (at : ℕ) → n ≡ form_number book at → (n ≡ 0 → ⊥) → (t : Tables) → n ≡ number_at book at t
+refused_number book at is z t = is ∙ sym (split_number book at t ∙ rw (ne_eqb _ _ (λ e. z (is ∙ e))))

@@ -1,23 +1,25 @@
 -- The end checks on the 16 sets are those of the definitions. After the sets are closed by the steps below k, q is in the set of p exactly
 -- where a way leads from p to q whose inner steps are below k: one step more of the closing is one step more of the definition. A step is
 -- enabled exactly where it is in the union of the sets.
-use Prim.Native.Nat.{ℕ, zero, suc}
+use Prim.Native.Nat.{ℕ, zero, suc, ◌%◌}
 use mathlib.Core.Path.{◌≡◌, refl, sym, ap, ap₂, ◌∙◌}
 use mathlib.Core.Bool.{Bool, true, false, cond, not, ◌&&◌, ◌||◌, or-false}
-use mathlib.Core.List.{List, map}
+use mathlib.Core.List.{List, [], ◌∷◌, map}
 use mathlib.Core.Bool
 use lib.Bits.{bit_or}
 use lib.Dec.{eqb}
-use lib.ListN.{get_or, get_or-map}
+use lib.ListN.{length, get_or, get_or-map, length-map}
+use Rattle.std.specs.List.{list_any, enumerate_from}
 use Rattle.bits.specs.Bits.{bit}
 use Rattle.bits.specs.Bounded.{any_below, fold_below}
 use Rattle.bits.proofs.Bounds.{any_ext}
 use Rattle.bits.proofs.BitLaws.{bit_or_lem, bit_zero}
 use Rattle.policy.specs.declared.Tables.{Tables}
 use Rattle.policy.specs.Tables.{enabled_by, enables}
-use Rattle.policy.specs.Checks.{ladder}
+use Rattle.policy.specs.Checks.{◌else◌, ladder}
 use Rattle.policy.specs.Rulebook.{reaches, has_circle, is_loose, has_loose, end_checks}
-use Rattle.rulebook.specs.Steps.{joined, through, closed, on_itself, circle_in, enabled_below, loose_among, loose_in, end_number}
+use Rattle.rulebook.specs.Steps.{joined, through, closed, on_itself, circle_in, enabled_below, loose_among, loose_in}
+use Rattle.rulebook.proofs.ListLaws.{any_places, within}
 
 -- ---- circles
 
@@ -55,7 +57,34 @@ unfolding circle_in has_circle on_itself
 circle_is t =
     any_ext 16 (on_itself (closed 16 t.steps)) (λ p. reaches t 16 p p) (λ p l. bit_closed t 16 p p)
 
+through_length : (k : ℕ) (sets : List ℕ) → length (through k sets) ≡ length sets
+unfolding through
+through_length k sets = length-map sets (joined k (get_or sets k 0))
+
+closed_length : (k : ℕ) (sets : List ℕ) → length (closed k sets) ≡ length sets
+unfolding closed
+closed_length zero sets = refl
+closed_length (suc k) sets = through_length k (closed k sets) ∙ closed_length k sets
+
+-- the closed sets with their places, one after another
+pub circle_listed : (sets : List ℕ) → length sets ≡ 16
+    → list_any (λ x. bit x.1 (x.0 % 16)) (enumerate_from 0 (closed 16 sets)) ≡ circle_in sets
+unfolding circle_in on_itself
+circle_listed sets long =
+    let all = closed 16 sets in
+    any_places (λ p set. bit set (p % 16)) 0 all 16 (closed_length 16 sets ∙ long)
+    ∙ any_ext 16 _ _ (λ p below. within (bit (get_or all p 0)) p 16 below)
+
 -- ---- steps that enable and are not enabled
+
+-- the sets with their places, one after another
+pub loose_listed : (sets : List ℕ) → length sets ≡ 16
+    → list_any (λ x. loose_among (enabled_below 16 sets) x.1 (x.0 % 16)) (enumerate_from 0 sets) ≡ loose_in sets
+unfolding loose_in
+loose_listed sets long =
+    let union = enabled_below 16 sets in
+    any_places (λ p set. loose_among union set (p % 16)) 0 sets 16 long
+    ∙ any_ext 16 _ _ (λ p below. within (loose_among union (get_or sets p 0)) p 16 below)
 
 pub bit_enabled : (sets : List ℕ) (n q : ℕ) → bit (enabled_below n sets) q ≡ any_below n (λ p. bit (get_or sets p 0) q)
 unfolding enabled_below fold_below any_below
@@ -73,11 +102,6 @@ loose_is t =
 
 -- ---- the checks of the end record
 
-pub end_number_is : (t : Tables) (n : ℕ) → end_number n t.steps ≡ cond (eqb n 0) (ladder (end_checks t)) n
-unfolding end_number end_checks ladder
-end_number_is t n = ap (λ (m : ℕ). cond (eqb n 0) m n) (rw (circle_is t, loose_is t) (turned (has_circle t) (has_loose t)))
-  where
-    turned : (a b : Bool) → ◌≡◌ {A = ℕ} (cond a 8 (cond b 9 0)) (cond (not a) (cond (not b) 0 9) 8)
-    turned true b = refl
-    turned false true = refl
-    turned false false = refl
+pub end_is : (t : Tables) → ladder ((not (circle_in t.steps) else 8) ∷ (not (loose_in t.steps) else 9) ∷ []) ≡ ladder (end_checks t)
+unfolding end_checks
+end_is t = rw (circle_is t, loose_is t)

@@ -6,8 +6,7 @@ use Rattle.policy.specs.declared.Firm.{Firm}
 use Rattle.policy.specs.declared.Person.{Person}
 use Rattle.policy.specs.declared.Folder.{Folder}
 use Rattle.policy.specs.declared.Role.{Role}
-use Rattle.policy.specs.Tables.{no_firm, no_person, no_folder, no_role}
-use Rattle.policy.specs.Rulebook.{firm_given, person_given, role_given}
+use Rattle.policy.specs.Tables.{no_firm, no_folder}
 
 -- the entries that a record declares
 abbrev pub new_firm : ℕ → Firm
@@ -21,16 +20,6 @@ new_folder f kind level = record { declared = true; firm = f; kind = kind; level
 
 abbrev pub new_role : ℕ → Role
 new_role rights = record { declared = true; rights = rights }
-
--- every entry of an array is as a load leaves it
-unfoldable pub firms_given : List Firm → Bool
-firms_given firms = all_below 64 (λ f. firm_given (get_or firms f no_firm))
-
-unfoldable pub persons_given : List Person → Bool
-persons_given persons = all_below 64 (λ s. person_given (get_or persons s no_person))
-
-unfoldable pub roles_given : List Role → Bool
-roles_given roles = all_below 32 (λ k. role_given (get_or roles k no_role))
 
 -- a folder as a load leaves it, where the entry of its firm is marked declared or not
 unfoldable pub folder_given_by : Bool → Folder → Bool

@@ -35,7 +35,3 @@ loose_among enabled set p = not (eqb p 0) && not (eqb set 0) && not (bit enabled
 
 unfoldable pub loose_in : List ℕ → Bool
 loose_in sets = any_below 16 (λ p. loose_among (enabled_below 16 sets) (get_or sets p 0) p)
-
--- the number of a book that ends with these sets, if it has none before
-unfoldable pub end_number : ℕ → List ℕ → ℕ
-end_number number sets = cond (eqb number 0) (cond (circle_in sets) 8 (cond (loose_in sets) 9 0)) number

@@ -1,5 +1,6 @@
 // The entries of the tables: as they stand in the empty book, as a record declares them, and as a load leaves them.
-ghost use Rattle.std.specs.Prelude.{◌≡◌, replicate};
+ghost use Rattle.std.specs.Prelude.{◌≡◌, Bool, replicate};
+ghost use Rattle.std.specs.List.{list_all};
 ghost use Rattle.policy.specs.Tables.{empty_tables};
 ghost use Rattle.policy.specs.Rulebook.{made_public, firm_given, person_given, role_given};
 ghost use Rattle.rulebook.specs.Entries.{
@@ -7,31 +8,22 @@ ghost use Rattle.rulebook.specs.Entries.{
   new_person,
   new_folder,
   new_role,
-  firms_given,
-  persons_given,
-  roles_given,
-  folder_given_by,
+  folder_given_among,
   folders_given,
 };
 
-use crate::logic::both;
 use level::Level;
 use policy::{Firm, Folder, Person, Role, Tables};
 
-// Arrays of one entry. Each is made in a function of its own, where the entry is copied whole and not field by field.
-fn persons_of(entry: Person) -> [Person; 64]
-    ensures { result ≡ replicate 64 entry }
+// An array of one entry. It is made in a function of its own, where the entry is copied whole and not field by field.
+fn all_of<T: Copy, const N: usize>(entry: T) -> [T; N]
+    ensures { result ≡ replicate N entry }
 {
-    [entry; 64]
-}
-
-fn folders_of(entry: Folder) -> [Folder; 128]
-    ensures { result ≡ replicate 128 entry }
-{
-    [entry; 128]
+    [entry; N]
 }
 
 // The tables of the empty book.
+#[tactic(auto, unfolding(policy::specs::Tables::empty_tables))]
 pub fn empty() -> Tables
     ensures { result ≡ empty_tables }
 {
@@ -54,18 +46,13 @@ pub fn empty() -> Tables
         declared: false,
         rights: 0,
     };
-    let firms = [firm; 64];
-    let persons = persons_of(person);
-    let folders = folders_of(folder);
-    let roles = [role; 32];
-    let steps = [0u16; 16];
     Tables {
         mask: 0,
-        firms: firms,
-        persons: persons,
-        folders: folders,
-        roles: roles,
-        steps: steps,
+        firms: all_of(firm),
+        persons: all_of(person),
+        folders: all_of(folder),
+        roles: all_of(role),
+        steps: [0; 16],
     }
 }
 
@@ -75,7 +62,7 @@ pub fn new_firm(class: u8) -> Firm
 {
     Firm {
         declared: true,
-        class: class,
+        class,
     }
 }
 
@@ -93,20 +80,19 @@ pub fn new_folder(firm: u8, kind: u8, level: u16) -> Folder
 {
     Folder {
         declared: true,
-        firm: firm,
-        kind: kind,
+        firm,
+        kind,
         level: Level(level),
         public: false,
     }
 }
 
 // A folder's entry, marked public.
+#[tactic(auto, unfolding(policy::specs::Rulebook::made_public))]
 pub fn made_public(o: Folder) -> Folder
     ensures { result ≡ made_public o }
 {
-    let mut marked = o;
-    marked.public = true;
-    marked
+    Folder { public: true, ..o }
 }
 
 pub fn new_role(rights: u64) -> Role
@@ -114,96 +100,72 @@ pub fn new_role(rights: u64) -> Role
 {
     Role {
         declared: true,
-        rights: rights,
+        rights,
     }
 }
 
-// Whether an entry is as a load leaves it: in range, and zero where it is not declared.
-fn firm_given(f: Firm) -> bool
-    ensures { result ≡ firm_given f }
-{
-    if f.declared {
-        f.class <= 31
-    } else {
-        f.class == 0
+// An entry of the tables that a load leaves by itself: in range, and zero where it is not declared.
+pub trait Entry: Copy {
+    ghost as_left: { Self → Bool };
+
+    fn given(self) -> bool
+        ensures { result ≡ as_left self };
+}
+
+impl Entry for Firm {
+    ghost as_left = { firm_given };
+
+    #[tactic(auto, unfolding(policy::specs::Rulebook::firm_given))]
+    fn given(self) -> bool {
+        if self.declared {
+            self.class <= 31
+        } else {
+            self.class == 0
+        }
     }
 }
 
-fn person_given(s: Person) -> bool
-    ensures { result ≡ person_given s }
-{
-    if s.declared { true } else { s.level.0 == 0 }
+impl Entry for Person {
+    ghost as_left = { person_given };
+
+    #[tactic(auto, unfolding(policy::specs::Rulebook::person_given))]
+    fn given(self) -> bool {
+        self.declared | (self.level.0 == 0)
+    }
 }
 
-// Whether a folder is as a load leaves it, where the entry of its firm is marked declared or not.
-fn folder_given(declared: bool, o: Folder) -> bool
-    ensures { result ≡ folder_given_by declared o }
+impl Entry for Role {
+    ghost as_left = { role_given };
+
+    #[tactic(auto, unfolding(policy::specs::Rulebook::role_given))]
+    fn given(self) -> bool {
+        self.declared | (self.rights == 0)
+    }
+}
+
+// Whether every entry is as a load leaves it.
+pub fn all_given<T: Entry, const N: usize>(entries: &[T; N]) -> bool
+    ensures { result ≡ list_all T.as_left entries.now }
 {
+    entries.iter().all(|entry| entry.given())
+}
+
+// Whether a folder is as a load leaves it. This asks whether its firm is declared, so a folder is no `Entry`.
+#[tactic(auto, unfolding(crate::specs::Entries::folder_given_among, crate::specs::Entries::folder_given_by))]
+fn folder_given(firms: &[Firm; 64], o: Folder) -> bool
+    ensures { result ≡ folder_given_among firms.now o }
+{
+    let f = usize::from(o.firm) % 64;
     if o.declared {
-        both(both(o.firm < 64, declared), o.kind <= 15)
+        (o.firm < 64) & firms[f].declared & (o.kind <= 15)
     } else {
-        both(
-            both(both(o.firm == 0, o.kind == 0), o.level.0 == 0),
-            !o.public,
-        )
+        (o.firm == 0) & (o.kind == 0) & (o.level.0 == 0) & !o.public
     }
 }
 
-fn role_given(k: Role) -> bool
-    ensures { result ≡ role_given k }
+// Whether every folder is as a load leaves it.
+pub fn folders_given(firms: &[Firm; 64], folders: &[Folder; 128]) -> bool
+    ensures { result ≡ list_all (folder_given_among firms.now) folders.now }
 {
-    if k.declared { true } else { k.rights == 0 }
-}
-
-pub fn firms_given(firms: [Firm; 64]) -> bool
-    ensures { result ≡ firms_given firms }
-{
-    let mut good = true;
-    let mut f: usize = 0;
-    while f < 64 {
-        let firm = firms[f];
-        good = both(firm_given(firm), good);
-        f += 1;
-    }
-    good
-}
-
-pub fn persons_given(persons: [Person; 64]) -> bool
-    ensures { result ≡ persons_given persons }
-{
-    let mut good = true;
-    let mut s: usize = 0;
-    while s < 64 {
-        let person = persons[s];
-        good = both(person_given(person), good);
-        s += 1;
-    }
-    good
-}
-
-pub fn folders_given(firms: [Firm; 64], folders: [Folder; 128]) -> bool
-    ensures { result ≡ folders_given firms folders }
-{
-    let mut good = true;
-    let mut o: usize = 0;
-    while o < 128 {
-        let folder = folders[o];
-        let f = folder.firm as usize % 64;
-        good = both(folder_given(firms[f].declared, folder), good);
-        o += 1;
-    }
-    good
-}
-
-pub fn roles_given(roles: [Role; 32]) -> bool
-    ensures { result ≡ roles_given roles }
-{
-    let mut good = true;
-    let mut k: usize = 0;
-    while k < 32 {
-        let role = roles[k];
-        good = both(role_given(role), good);
-        k += 1;
-    }
-    good
+    folders.iter().all(|folder| folder_given(firms, *folder))
 }

@@ -1,81 +1,105 @@
 // Loading a rulebook (document 01, "Rulebook"): the tables that its records declare, or the number and the offset of what refuses it.
 #![tactic(auto)]
 
-ghost use Rattle.std.specs.Prelude.{◌≡◌};
-ghost use Rattle.policy.specs.Rulebook.{refused_book, load_book, given};
+ghost use Rattle.std.specs.Prelude.{◌≡◌, true};
+ghost use Rattle.policy.specs.Rulebook.{in_range, declare, refused_book, ended, load_book, given};
+ghost use Rattle.policy.specs.Refusals.{refusal_number, number_of};
 ghost use Rattle.policy.specs.Calls.{rest_of};
-ghost use Rattle.rulebook.specs.Readings.{passed_book};
+ghost use Rattle.rulebook.specs.Readings.{record_read, table_number};
 
-use logic::both;
-use policy::{Loaded, Tables, numbers};
+use crate::records::Record;
+use policy::{Answer, Loaded, Refusal, Tables, number_of};
+use std::mem::replace;
 
 mod entries;
-mod logic;
 mod records;
 mod steps;
 
 // A refused book.
-fn refuse(number: u8, at: usize) -> Loaded
-    ensures { result ≡ refused_book number at }
+#[tactic(auto, unfolding(policy::specs::Rulebook::refused_book))]
+fn refuse(refusal: Refusal, at: usize) -> Loaded
+    ensures { result ≡ refused_book (refusal_number refusal) at }
 {
     let tables = entries::empty();
     Loaded {
-        number: number,
+        number: u8::from(refusal),
         offset: at,
-        tables: tables,
+        tables,
     }
 }
 
-// A book that passed, with its end record at an offset.
-fn finish(at: usize, t: Tables) -> Loaded
-    ensures { result ≡ passed_book at t }
+// A book with its end record at an offset: its tables, where their steps are as they may be.
+fn end(at: usize, tables: Tables) -> Loaded
+    ensures { result ≡ ended at tables }
 {
+    if let Err(refusal) = steps::end_answer(&tables.steps) {
+        return refuse(refusal, at);
+    }
     Loaded {
-        number: numbers::GRANTED,
+        number: number_of(Ok(())),
         offset: at,
-        tables: t,
+        tables,
     }
 }
 
-// Loads a book: its tables, or those of the empty book with the number and the offset of what refuses it. `own` is the number that a
-// record declares or marks, and `named` the firm or the step that it names besides. What a record declares is stored before its number is
-// looked at: the two matches on its kind then stand side by side, and take one jump. Of a refused book these tables are not handed back.
+// Declares a record that a load has read, and answers whether the tables refuse it. What it declares is stored also where they do: of a
+// refused book the tables are not handed back, so one match on the record, with one jump, serves for both.
+#[tactic(auto, unfolding(policy::specs::Rulebook::declare))]
+fn declare(t: &mut Tables, found: Record) -> Answer
+    requires { in_range (record_read found) ≡ true }
+    ensures stores { t.new ≡ declare t.old (record_read found) }
+    ensures answers { number_of result ≡ table_number t.old (record_read found) }
+{
+    match found {
+        Record::End => Ok(()),
+        Record::Rules { mask } => {
+            t.mask = mask;
+            Ok(())
+        }
+        Record::Firm { number, class } => {
+            let before = replace(&mut t.firms[usize::from(number)], entries::new_firm(class));
+            records::new_answer(before.declared)
+        }
+        Record::Person { number, level } => {
+            let entry = entries::new_person(level);
+            let before = replace(&mut t.persons[usize::from(number)], entry);
+            records::new_answer(before.declared)
+        }
+        Record::Folder {
+            number,
+            firm,
+            kind,
+            level,
+        } => {
+            let entry = entries::new_folder(firm, kind, level);
+            let before = replace(&mut t.folders[usize::from(number)], entry);
+            records::folder_answer(before.declared, t.firms[usize::from(firm)].declared)
+        }
+        Record::Role { number, rights } => {
+            let before = replace(&mut t.roles[usize::from(number)], entries::new_role(rights));
+            records::new_answer(before.declared)
+        }
+        Record::Pair { step, enabled } => records::enable(&mut t.steps[usize::from(step)], enabled),
+        Record::Mark { folder } => records::mark(&mut t.folders[usize::from(folder)]),
+    }
+}
+
+// Loads a book: its tables, or those of the empty book with the number and the offset of what refuses it.
 pub fn load(book: &[u8]) -> Loaded
     ensures { result ≡ load_book book.now }
 {
     let mut t = entries::empty();
     let mut at: usize = 0;
     loop {
-        let r = records::read(book, at);
-        let kind = r.kind;
-        let own = r.first as usize;
-        let named = r.second as usize;
-        let mut number = r.number;
-        match kind {
-            2 => number = records::declared_number(t.firms[own].declared),
-            3 => number = records::declared_number(t.persons[own].declared),
-            4 => number = records::folder_number(t.folders[own].declared, t.firms[named].declared),
-            5 => number = records::declared_number(t.roles[own].declared),
-            6 => number = records::pair_number(t.steps[own], named),
-            7 => number = records::mark_number(t.folders[own].public, t.folders[own].declared),
-            0 => number = steps::end_number(number, &t.steps),
-            1 | 8..=255 => {}
+        let r = match records::read(book, at) {
+            Ok(r) => r,
+            Err(refusal) => return refuse(refusal, at),
+        };
+        if matches!(r.found, Record::End) {
+            return end(at, t);
         }
-        match kind {
-            1 => t.mask = r.first,
-            2 => t.firms[own] = entries::new_firm(r.second),
-            3 => t.persons[own] = entries::new_person(r.level),
-            4 => t.folders[own] = entries::new_folder(r.second, r.third, r.level),
-            5 => t.roles[own] = entries::new_role(r.rights),
-            6 => t.steps[own] = bits::with_bit16(t.steps[own], named),
-            7 => t.folders[own] = entries::made_public(t.folders[own]),
-            0 | 8..=255 => {}
-        }
-        if number != numbers::GRANTED {
-            return refuse(number, at);
-        }
-        if kind == 0 {
-            return finish(at, t);
+        if let Err(refusal) = declare(&mut t, r.found) {
+            return refuse(refusal, at);
         }
         at = r.next;
     }
@@ -86,7 +110,7 @@ pub fn rest(book: &[u8]) -> &[u8]
     ensures { result.now ≡ rest_of book.now }
 {
     let loaded = load(book);
-    if loaded.number != numbers::GRANTED {
+    if loaded.number != number_of(Ok(())) {
         let end = book.len();
         return &book[end..];
     }
@@ -98,16 +122,12 @@ pub fn rest(book: &[u8]) -> &[u8]
 pub fn given(t: Tables) -> bool
     ensures { result ≡ given t }
 {
-    let firms = t.firms;
-    let persons = t.persons;
-    let folders = t.folders;
-    let roles = t.roles;
-    let sets = t.steps;
-    let mut good = both(t.mask <= 15, entries::firms_given(firms));
-    good = both(good, entries::persons_given(persons));
-    good = both(good, entries::folders_given(firms, folders));
-    good = both(good, entries::roles_given(roles));
-    good = both(good, !steps::enters_create(sets));
-    good = both(good, !steps::has_circle(sets));
-    both(good, !steps::has_loose(sets))
+    (t.mask <= 15)
+        & entries::all_given(&t.firms)
+        & entries::all_given(&t.persons)
+        & entries::folders_given(&t.firms, &t.folders)
+        & entries::all_given(&t.roles)
+        & !steps::enters_create(&t.steps)
+        & !steps::has_circle(&t.steps)
+        & !steps::has_loose(&t.steps)
 }

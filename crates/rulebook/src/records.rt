@@ -1,34 +1,57 @@
 // Reading one record: the checks in which the tables have no part, and the fields.
-ghost use Rattle.std.specs.Prelude.{◌≡◌, not, [], ◌∷◌, ◌+◌, ◌%◌, ◌≤◌, ◌<◌, eqb, length, take, drop};
-ghost use Rattle.bits.specs.Bits.{bit};
+ghost use Rattle.std.specs.Prelude.{◌≡◌, not, [], ◌∷◌, ◌+◌, ◌%◌, ◌≤◌, eqb, length, take, drop, IfOk, IfErr};
+ghost use Rattle.bits.specs.Bits.{bit, with_bit};
 ghost use Rattle.policy.specs.Checks.{◌else◌, ladder};
-ghost use Rattle.policy.specs.Rulebook.{body_length, little_endian, in_range};
-ghost use Rattle.rulebook.specs.Readings.{record_read, Started, FieldsRead, ReadAt};
+ghost use Rattle.policy.specs.Rulebook.{body_length, little_endian, in_range, made_public};
+ghost use Rattle.policy.specs.Refusals.{number_of, refusal_number};
+ghost use Rattle.rulebook.specs.Readings.{record_read, FieldsRead, form_number, ReadAt};
 
-use crate::logic::both;
-use policy::numbers;
+use crate::entries;
+use bits::Word;
+use policy::{Answer, Folder, Refusal};
 
 // The highest kind of a record.
 const LAST_KIND: u8 = 7;
 
-// A record as it is read: the number that refuses it, or 0, its kind, the bytes of its body that are fields, its level or its rights, and
-// where the next record starts. What its kind does not have is 0, and so is everything of a refused record but its number.
+// A record as it is read, with the fields of its kind.
 #[derive(Clone, Copy)]
-pub struct Reading {
-    pub number: u8,
-    pub kind: u8,
-    pub first: u8,
-    pub second: u8,
-    pub third: u8,
-    pub level: u16,
-    pub rights: u64,
-    pub next: usize,
+pub enum Record {
+    End,
+    Rules {
+        mask: u8,
+    },
+    Firm {
+        number: u8,
+        class: u8,
+    },
+    Person {
+        number: u8,
+        level: u16,
+    },
+    Folder {
+        number: u8,
+        firm: u8,
+        kind: u8,
+        level: u16,
+    },
+    Role {
+        number: u8,
+        rights: u64,
+    },
+    Pair {
+        step: u8,
+        enabled: u8,
+    },
+    Mark {
+        folder: u8,
+    },
 }
 
-fn wide(b: u8) -> u16
-    ensures { (result ≡ b) × (result < 256) }
-{
-    b as u16
+// A record that is found at an offset, and where the next one starts.
+#[derive(Clone, Copy)]
+pub struct Reading {
+    pub found: Record,
+    pub next: usize,
 }
 
 // The number in two bytes, the low byte first.
@@ -36,7 +59,7 @@ fn number16(book: &[u8], at: usize) -> u16
     requires { at + 2 ≤ length book.now }
     ensures { result ≡ little_endian (take 2 (drop at book.now)) }
 {
-    wide(book[at]) + 256 * wide(book[at + 1])
+    u16::from_le_bytes([book[at], book[at + 1]])
 }
 
 // The number in eight bytes.
@@ -44,19 +67,24 @@ fn number64(book: &[u8], at: usize) -> u64
     requires { at + 8 ≤ length book.now }
     ensures { result ≡ little_endian (take 8 (drop at book.now)) }
 {
-    let a = number16(book, at);
-    let b = number16(book, at + 2);
-    let c = number16(book, at + 4);
-    let d = number16(book, at + 6);
-    a as u64 + 65536 * (b as u64) + 4294967296 * (c as u64) + 281474976710656 * (d as u64)
+    u64::from_le_bytes([
+        book[at],
+        book[at + 1],
+        book[at + 2],
+        book[at + 3],
+        book[at + 4],
+        book[at + 5],
+        book[at + 6],
+        book[at + 7],
+    ])
 }
 
 // The kind fixes the length of the record, with its kind byte.
+#[tactic(auto, unfolding(policy::specs::Rulebook::body_length))]
 fn record_length(kind: u8) -> usize
     ensures { result ≡ 1 + body_length kind }
 {
     match kind {
-        0 => 1,
         1 => 2,
         2 => 3,
         3 => 4,
@@ -64,157 +92,149 @@ fn record_length(kind: u8) -> usize
         5 => 10,
         6 => 3,
         7 => 2,
-        8..=255 => 1,
+        0 | 8..=255 => 1,
     }
 }
 
-// A reading with a number, a kind, the first byte of its body and where the next record starts.
-fn start(number: u8, kind: u8, first: u8, next: usize) -> Reading
-    ensures { Started number kind first next result }
-{
-    Reading {
-        number: number,
-        kind: kind,
-        first: first,
-        second: 0,
-        third: 0,
-        level: 0,
-        rights: 0,
-        next: next,
-    }
-}
-
-// A refused record.
-fn blank(number: u8) -> Reading
-    ensures { Started number 0 0 0 result }
-{
-    start(number, 0, 0, 0)
-}
-
-// The fields of a record of the given kind, whose body starts at a position. Each kind has its own length here: a processor that expects
-// the kind need not wait for the length of one record to find the next.
-fn fields(kind: u8, book: &[u8], at: usize) -> Reading
+// The record of the given kind, whose body starts at a position, and where that ends. Each kind has its own length here: a processor that
+// expects the kind need not wait for the length of one record to find the next. A kind above the last is refused before, and stands here
+// with the end's.
+#[tactic(auto, unfolding(policy::specs::Rulebook::body_length))]
+fn fields(kind: u8, book: &[u8], at: usize) -> (Record, usize)
     requires { at + body_length kind ≤ length book.now }
-    ensures { FieldsRead kind book.now at result }
+    ensures { FieldsRead kind book.now at result.0 result.1 }
 {
-    let mut r = start(0, kind, 0, at);
     match kind {
-        1 => r = start(0, kind, book[at], at + 1),
+        1 => (Record::Rules { mask: book[at] }, at + 1),
         2 => {
-            r = start(0, kind, book[at], at + 2);
-            r.second = book[at + 1];
+            let (number, class) = (book[at], book[at + 1]);
+            (Record::Firm { number, class }, at + 2)
         }
         3 => {
-            r = start(0, kind, book[at], at + 3);
-            r.level = number16(book, at + 1);
+            let (number, level) = (book[at], number16(book, at + 1));
+            (Record::Person { number, level }, at + 3)
         }
         4 => {
-            r = start(0, kind, book[at], at + 5);
-            r.second = book[at + 1];
-            r.third = book[at + 2];
-            r.level = number16(book, at + 3);
+            let (number, firm) = (book[at], book[at + 1]);
+            let (kind, level) = (book[at + 2], number16(book, at + 3));
+            (
+                Record::Folder {
+                    number,
+                    firm,
+                    kind,
+                    level,
+                },
+                at + 5,
+            )
         }
         5 => {
-            r = start(0, kind, book[at], at + 9);
-            r.rights = number64(book, at + 1);
+            let (number, rights) = (book[at], number64(book, at + 1));
+            (Record::Role { number, rights }, at + 9)
         }
         6 => {
-            r = start(0, kind, book[at], at + 2);
-            r.second = book[at + 1];
+            let (step, enabled) = (book[at], book[at + 1]);
+            (Record::Pair { step, enabled }, at + 2)
         }
-        7 => r = start(0, kind, book[at], at + 1),
-        0 | 8..=255 => {}
+        7 => (Record::Mark { folder: book[at] }, at + 1),
+        0 | 8..=255 => (Record::End, at),
     }
-    r
 }
 
 // Whether each field is in its range.
-fn in_range(r: Reading) -> bool
-    ensures { result ≡ in_range (record_read r) }
+#[tactic(auto, unfolding(policy::specs::Rulebook::in_range))]
+fn in_range(found: Record) -> bool
+    ensures { result ≡ in_range (record_read found) }
 {
-    let kind = r.kind;
-    match kind {
-        0 => true,
-        1 => r.first <= 15,
-        2 => both(r.first <= 63, r.second <= 31),
-        3 => r.first <= 63,
-        4 => both(both(r.first <= 127, r.second <= 63), r.third <= 15),
-        5 => r.first <= 31,
-        6 => both(r.first <= 15, r.second <= 15),
-        7 => r.first <= 127,
-        8..=255 => true,
+    match found {
+        Record::End => true,
+        Record::Rules { mask } => mask <= 15,
+        Record::Firm { number, class } => (number <= 63) & (class <= 31),
+        Record::Person { number, .. } => number <= 63,
+        Record::Folder {
+            number,
+            firm,
+            kind,
+            ..
+        } => (number <= 127) & (firm <= 63) & (kind <= 15),
+        Record::Role { number, .. } => number <= 31,
+        Record::Pair { step, enabled } => (step <= 15) & (enabled <= 15),
+        Record::Mark { folder } => folder <= 127,
     }
 }
 
 // Reads the record at an offset, and checks it as far as the tables have no part in that.
-pub fn read(book: &[u8], at: usize) -> Reading
-    ensures { ReadAt book.now at result }
+pub fn read(book: &[u8], at: usize) -> Result<Reading, Refusal>
+    ensures ok { IfOk result (ReadAt book.now at) }
+    ensures err { IfErr result (λ refusal. refusal_number refusal ≡ form_number book.now at) }
 {
     if book.len() <= at {
-        return blank(numbers::BOOK_CUT);
+        return Err(Refusal::BookCut);
     }
     let kind = book[at];
     if LAST_KIND < kind {
-        return blank(numbers::UNKNOWN_KIND);
+        return Err(Refusal::UnknownKind);
     }
     if (kind == 1) != (at == 0) {
-        return blank(numbers::MISPLACED_RULES);
+        return Err(Refusal::MisplacedRules);
     }
     if book.len() - at < record_length(kind) {
-        return blank(numbers::BOOK_CUT);
+        return Err(Refusal::BookCut);
     }
-    let r = fields(kind, book, at + 1);
-    if !in_range(r) {
-        return blank(numbers::OUT_OF_RANGE);
+    let (found, next) = fields(kind, book, at + 1);
+    if !in_range(found) {
+        return Err(Refusal::OutOfRange);
     }
-    r
+    Ok(Reading { found, next })
 }
 
-// The number of a record that names something which stands earlier. Where that is missing, the number is `missing`.
-fn naming_number(declared: bool, stands: bool, missing: u8) -> u8
-    ensures { result ≡ ladder ((not declared else 5) ∷ (stands else missing) ∷ []) }
+// The answer to a record that is refused only where its number is declared.
+#[tactic(auto, unfolding(policy::specs::Checks::ladder))]
+pub fn new_answer(declared: bool) -> Answer
+    ensures { number_of result ≡ ladder ((not declared else 5) ∷ []) }
 {
     if declared {
-        return numbers::DECLARED_BEFORE;
-    }
-    if stands { numbers::GRANTED } else { missing }
-}
-
-// The number of a folder's record, which names a firm.
-pub fn folder_number(declared: bool, firm: bool) -> u8
-    ensures { result ≡ ladder ((not declared else 5) ∷ (firm else 6) ∷ []) }
-{
-    naming_number(declared, firm, numbers::FIRM_NOT_DECLARED)
-}
-
-// The number of a mark's record, which names a folder.
-pub fn mark_number(public: bool, folder: bool) -> u8
-    ensures { result ≡ ladder ((not public else 5) ∷ (folder else 19) ∷ []) }
-{
-    naming_number(public, folder, numbers::FOLDER_NOT_DECLARED)
-}
-
-// The number of a pair's record, from the set of the steps that p enables.
-pub fn pair_number(steps: u16, q: usize) -> u8
-    ensures { result ≡ ladder ((not (bit steps (q % 16)) else 5) ∷ (not (eqb q 0) else 7) ∷ []) }
-{
-    if bits::bit16(steps, q) {
-        return numbers::DECLARED_BEFORE;
-    }
-    if q == 0 {
-        numbers::ENTERS_CREATE
+        Err(Refusal::DeclaredBefore)
     } else {
-        numbers::GRANTED
+        Ok(())
     }
 }
 
-// The number of a record that is refused only where its number is declared.
-pub fn declared_number(declared: bool) -> u8
-    ensures { result ≡ ladder ((not declared else 5) ∷ []) }
+// The answer to a record that asks something besides: where that does not hold, `otherwise` refuses it.
+#[tactic(auto, unfolding(policy::specs::Checks::ladder))]
+fn asking_answer(declared: bool, holds: bool, otherwise: Refusal) -> Answer
+    ensures { number_of result ≡ ladder ((not declared else 5) ∷ (holds else refusal_number otherwise) ∷ []) }
 {
     if declared {
-        numbers::DECLARED_BEFORE
-    } else {
-        numbers::GRANTED
+        return Err(Refusal::DeclaredBefore);
     }
+    if holds { Ok(()) } else { Err(otherwise) }
+}
+
+// The answer to a folder's record, which names a firm.
+pub fn folder_answer(declared: bool, firm: bool) -> Answer
+    ensures { number_of result ≡ ladder ((not declared else 5) ∷ (firm else 6) ∷ []) }
+{
+    asking_answer(declared, firm, Refusal::FirmNotDeclared)
+}
+
+// Marks a folder's entry public, and answers.
+#[tactic(auto, unfolding(policy::specs::Checks::ladder))]
+pub fn mark(o: &mut Folder) -> Answer
+    ensures stores { o.new ≡ made_public o.old }
+    ensures answers { number_of result ≡ ladder ((not o.old.public else 5) ∷ (o.old.declared else 19) ∷ []) }
+{
+    let before = *o;
+    *o = entries::made_public(before);
+    asking_answer(before.public, before.declared, Refusal::FolderNotDeclared)
+}
+
+// Puts step q into the set of the steps that p enables, and answers.
+#[tactic(auto, unfolding(policy::specs::Checks::ladder))]
+pub fn enable(steps: &mut u16, q: u8) -> Answer
+    ensures stores { steps.new ≡ with_bit steps.old (q % 16) }
+    ensures answers { number_of result ≡ ladder ((not (bit steps.old (q % 16)) else 5) ∷ (not (eqb q 0) else 7) ∷ []) }
+{
+    let before = *steps;
+    *steps = before.with_bit(usize::from(q));
+    asking_answer(before.bit(usize::from(q)), q != 0, Refusal::EntersCreate)
 }

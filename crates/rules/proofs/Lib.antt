@@ -1,2 +1,3 @@
+pub mod RoleLaws
 pub mod SetLaws
 pub mod ClassLaws

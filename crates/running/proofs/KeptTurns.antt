@@ -1,9 +1,9 @@
 -- A run that keeps, turn by turn: a put by what is kept is one put more of the run, and what is kept after it is what the set and the
 -- levels after it give.
-use Prim.Native.Nat.{ℕ, ◌+◌, ◌-◌, ◌%◌, ◌≤◌, ◌<◌}
+use Prim.Native.Nat.{ℕ, ◌+◌, ◌%◌, ◌≤◌, ◌<◌}
 use native.Mathlib.Omega.{arith}
 use mathlib.Core.Path.{◌≡◌, refl, sym, ap, ◌∙◌}
-use mathlib.Core.Bool.{Bool, true, cond}
+use mathlib.Core.Bool.{true, cond}
 use mathlib.Core.List.{List}
 use mathlib.Core.Option.{some}
 use lib.Dec.{eqb}
@@ -12,16 +12,17 @@ use Rattle.policy.specs.declared.Folder.{Folder}
 use Rattle.policy.specs.declared.Tables.{Tables}
 use Rattle.policy.specs.Tables.{folder_at, class_of}
 use Rattle.policy.specs.Rulebook.{given}
-use Rattle.policy.specs.Request.{Request, set_of}
+use Rattle.policy.specs.Request.{set_of}
 use Rattle.policy.specs.Levels.{level_at}
 use Rattle.policy.specs.Calls.{State, state, recorded_if, answers_due}
 use Rattle.request.specs.declared.Parsed.{Parsed}
 use Rattle.request.specs.Parsed.{as_request, ParsedFrom}
 use Rattle.questions.specs.Judging.{Ready, number_for}
 use Rattle.rules.specs.Sets.{firms_of}
-use Rattle.rules.specs.Kept.{HasHolders}
 use Rattle.branchfree.specs.Kinds.{asked_by}
-use Rattle.keeping.specs.Keeping.{Keeps, Serves, PutKept, Sized, Kept as Keeping}
+use Rattle.keeping.specs.declared.Fixed.{Fixed}
+use Rattle.keeping.specs.declared.Kept.{Kept as Keeping}
+use Rattle.keeping.specs.Keeping.{Keeps, FixedBy, Serves, PutKept}
 use Rattle.branchfree.proofs.KindLaws.{asked_is}
 use Rattle.putting.specs.Running.{Turned, Begun}
 use Rattle.running.specs.Kept.{Kept}
@@ -38,21 +39,10 @@ kept_none {t} {h} {l} ready keeps =
     }
 
 -- the numbers at hand, as the loop has them
-pub serves_by : {t : Tables} {holders : List ℕ} {e : Folder} {class : ℕ} (o : ℕ) → given t ≡ true → HasHolders t holders
-    → e ≡ folder_at t (o % 128) → class ≡ firms_of t (class_of t (o % 128)) → Serves t t.mask holders t.steps e class o
+pub serves_by : {t : Tables} {f : Fixed} {e : Folder} {class : ℕ} (o : ℕ) → given t ≡ true → FixedBy t f
+    → e ≡ folder_at t (o % 128) → class ≡ firms_of t (class_of t (o % 128)) → Serves t f.mask f.holders f.steps e class o
 serves_by o ok has entry firms =
-    record { tables = ok; rules = refl; rights = has; enabling = refl; entry = entry; firms = firms }
-
--- the sizes of what is kept
-pub kept_sized : {t : Tables} {H : Request → Bool} {l : List ℕ} {k : Keeping} → Keeps t H l k → Sized k
-kept_sized keeps =
-    record {
-      firms = keeps.firms.size;
-      holding = keeps.holding.size;
-      done = keeps.done.size;
-      next = keeps.next.size;
-      sets = keeps.levels.size;
-    }
+    record { tables = ok; rules = has.rules; rights = has.rights; enabling = has.enabling; entry = entry; firms = firms }
 
 module _ {t : Tables} {a₀ : State} {requests answers₀ : List ℕ} {at i granted : ℕ} {h answers : List ℕ} {k : Keeping}
     (so_far : Kept t a₀ requests answers₀ at i granted h answers k) (below : at < length requests)

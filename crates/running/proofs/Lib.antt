@@ -1,2 +1,3 @@
 pub mod ClassOf
 pub mod KeptTurns
+pub mod TakenTurns

@@ -3,7 +3,8 @@ use Rattle.std.specs.Prelude.{ℕ, List}
 use Rattle.policy.specs.declared.Tables.{Tables}
 use Rattle.policy.specs.Request.{set_of}
 use Rattle.policy.specs.Calls.{State, state}
-use Rattle.keeping.specs.Keeping.{Keeps, Kept as Keeping}
+use Rattle.keeping.specs.declared.Kept.{Kept as Keeping}
+use Rattle.keeping.specs.Keeping.{Keeps}
 use Rattle.putting.specs.Running.{Begun}
 
 -- a run so far, of one that keeps: the levels so far are those of the sets that it keeps, and no buffer holds them yet

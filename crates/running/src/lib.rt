@@ -4,54 +4,54 @@
 
 ghost use Rattle.std.specs.Prelude.{◌≡◌, ◌≤◌, length};
 ghost use Rattle.policy.specs.Calls.{state, answers_due};
-ghost use Rattle.questions.specs.Judging.{Ready};
 ghost use Rattle.putting.specs.Running.{whole_end, Finished, Begun};
 
-use policy::Tables;
-use putting::{Counts, Progress, alone};
+use crate::kept::Written;
+use history::History;
+use levels::Levels;
+use policy::GivenTables;
+use putting::{Counts, Extent, FEW, Progress, alone};
 
 pub mod kept;
 
-// Begins a run of the requests: few of them are all left, and of many all whole records, which end at `end`, are put by what is gathered
+// Begins a run of the requests, which have this extent: few of them are all left, and of many all whole records are put by what is gathered
 // once.
 fn begin(
-    t: Tables,
-    h: &mut [u8],
-    l: &mut [u8],
+    t: &GivenTables,
+    h: &mut History,
+    l: &mut Levels,
     requests: &[u8],
     answers: &mut [u8],
-    end: usize,
-    few: bool,
+    extent: Extent,
 ) -> Progress
-    requires { Ready t h.old l.old × (answers_due requests.now ≤ length answers.old) × (end ≡ whole_end requests.now) }
-    ensures { Begun t (state h.old l.old) requests.now answers.old result.at result.answered result.granted
+    requires { (answers_due requests.now ≤ length answers.old) × (extent.end ≡ whole_end requests.now) }
+    ensures { Begun t.now.tables (state h.old l.old) requests.now answers.old result.at result.answered result.granted
         (state h.new l.new) answers.new }
 {
-    if few {
+    if extent.due < FEW {
         return Progress {
             at: 0,
             answered: 0,
             granted: 0,
         };
     }
-    kept::run(t, h, l, requests, answers, end)
+    kept::run::<u8, Written>(t, h, l, requests, answers, extent.end)
 }
 
-// Runs the requests, whose whole records end at `end`: few of them each alone, and otherwise by what is gathered once, with an unknown or
-// cut record alone at last.
+// Runs the requests, which have this extent: few of them each alone, and otherwise by what is gathered once, with an unknown or cut record
+// alone at last.
 pub fn run(
-    t: Tables,
-    h: &mut [u8],
-    l: &mut [u8],
+    t: &GivenTables,
+    h: &mut History,
+    l: &mut Levels,
     requests: &[u8],
     answers: &mut [u8],
-    end: usize,
-    few: bool,
+    extent: Extent,
 ) -> Counts
-    requires { Ready t h.old l.old × (answers_due requests.now ≤ length answers.old) × (end ≡ whole_end requests.now) }
-    ensures { Finished t (state h.old l.old) requests.now answers.old result.granted result.refused
+    requires { (answers_due requests.now ≤ length answers.old) × (extent.end ≡ whole_end requests.now) }
+    ensures { Finished t.now.tables (state h.old l.old) requests.now answers.old result.granted result.refused
         (state h.new l.new) answers.new }
 {
-    let ran = begin(t, h, l, requests, answers, end, few);
+    let ran = begin(t, h, l, requests, answers, extent);
     alone::run_from(t, h, l, requests, answers, ran)
 }

@@ -4,7 +4,7 @@ use Prim.Native.Nat.{ℕ, suc, ◌+◌, ◌-◌, ◌%◌, ◌^◌, ◌≤◌, �
 use native.Mathlib.Nat.{mod-eq_of_lt}
 use native.Mathlib.Omega.{arith}
 use mathlib.Core.Path.{◌≡◌, refl, sym, ap, ◌∙◌}
-use mathlib.Core.Logic.{⊎_elim, ◌≢◌}
+use mathlib.Core.Logic.{⊎_elim}
 use mathlib.Core.Bool.{true, false, not}
 use mathlib.Core.List.Memᴰ
 use mathlib.Core.List.Perm
@@ -30,7 +30,7 @@ use Rattle.bits.proofs.Masks.{bit_mask_below, mask_lt}
 use Rattle.policy.specs.Plans.{places, places_from}
 use Rattle.policy.proofs.Permuted.{permuted_length}
 use Rattle.policy.proofs.JobOrders.{places_count, permuted_below}
-use Rattle.sorting.specs.Sorting.{blocked, Free, FirstFree, AllBlocked, InOrder, Sorted, Unsorted}
+use Rattle.sorting.specs.Sorting.{blocked, Free, AllBlocked, InOrder, Sorted, Unsorted}
 use Rattle.sorting.proofs.Listed.{listed, listed_first, listed_without, listed_holds, holds_listed}
 
 -- the pending places
@@ -109,16 +109,11 @@ module _ (rows : List ℕ) (n k : ℕ) (positions : List ℕ) (pending i : ℕ) 
       }
 
   -- the turn of a place that the search found
-  pub taken_turn : {next : ℕ} → k < 64 → FirstFree rows pending i → i ≢ 64 → next ≡ without_bit pending (i % 64)
-      → Taken rows n (k + 1) (set positions k (i % 64)) next
-  taken_turn l w other e =
-      let f = ⊎_elim (λ f. f) (λ b. absurd (other b.0)) w in
+  pub taken_turn : {next : ℕ} → k < 64 → Free rows pending i → next ≡ without_bit pending (i % 64)
+      → Taken rows n (k + 1) (set positions k i) next
+  taken_turn l f e =
       let more : k + 1 ≡ suc k = omega arith in
       rw (e, mod-eq_of_lt f.below, more) (taken_more l f)
-
--- a search that found none
-pub none_free : {rows : List ℕ} {pending i : ℕ} → FirstFree rows pending i → i ≡ 64 → AllBlocked rows pending
-none_free w e = ⊎_elim (λ f. let z : ⊥ = omega (arith, f.below) in absurd z) (λ b. b.1) w
 
 -- ---- the end
 

@@ -1,6 +1,6 @@
 -- Sorting by pairs: an order of the places below a bound in which each may come before each later one, where the row of a place is the set
 -- of the places that it may not come before.
-use Rattle.std.specs.Prelude.{ℕ, ◌-◌, ◌<◌, ◌≡◌, ◌⊎◌, Bool, true, false, get_or, replicate}
+use Rattle.std.specs.Prelude.{ℕ, ◌-◌, ◌<◌, ◌≡◌, Bool, true, false, get_or, replicate, Option, MatchOption}
 use mathlib.Core.List.{List, [], ◌∷◌, ◌++◌, Memᴰ, Perm}
 use Rattle.bits.specs.Bits.{bit}
 use Rattle.policy.specs.Plans.{places}
@@ -9,7 +9,7 @@ use Rattle.policy.specs.Plans.{places}
 abbrev pub blocked : List ℕ → ℕ → ℕ → Bool
 blocked rows i j = bit (get_or rows i 0) j
 
--- a pending place that may come before every pending one, or 64 where each may not come before some pending one
+-- a pending place that may come before every pending one
 pub record Free (rows : List ℕ) (pending i : ℕ) : Type 0 where
   pub below : i < 64
   pub waits : bit pending i ≡ true
@@ -18,8 +18,9 @@ pub record Free (rows : List ℕ) (pending i : ℕ) : Type 0 where
 abbrev pub AllBlocked : List ℕ → ℕ → Type 0
 AllBlocked rows pending = (i : ℕ) → bit pending i ≡ true → (j : ℕ) × (bit pending j ≡ true) × (blocked rows i j ≡ true)
 
-abbrev pub FirstFree : List ℕ → ℕ → ℕ → Type 0
-FirstFree rows pending i = Free rows pending i ⊎ ((i ≡ 64) × AllBlocked rows pending)
+-- such a place, or none where each may not come before some pending one
+abbrev pub FirstFree : List ℕ → ℕ → Option ℕ → Type 0
+FirstFree rows pending place = MatchOption place (AllBlocked rows pending) (Free rows pending)
 
 -- each place may come before each later one
 unfoldable pub InOrder : List ℕ → List ℕ → Type 0
@@ -41,7 +42,6 @@ pub record Unsorted (rows : List ℕ) (n : ℕ) : Type 0 where
   pub inside : (i : ℕ) → bit pending i ≡ true → i < n
   pub kept : AllBlocked rows pending
 
--- what sorting answers: whether there is such an order, and its positions
-pub record Sorts (rows : List ℕ) (n : ℕ) (found : Bool) (positions : List ℕ) : Type 0 where
-  pub is : found ≡ true → Sorted rows n positions
-  pub none : found ≡ false → Unsorted rows n
+-- what sorting answers: the positions of such an order, or none where such places are left
+abbrev pub Sorts : List ℕ → ℕ → Option (List ℕ) → Type 0
+Sorts rows n order = MatchOption order (Unsorted rows n) (Sorted rows n)

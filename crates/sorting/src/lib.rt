@@ -7,12 +7,7 @@ ghost use Rattle.std.specs.Prelude.{◌≡◌, true, ◌≤◌};
 ghost use Rattle.bits.specs.Bits.{mask_below};
 ghost use Rattle.sorting.specs.Sorting.{FirstFree, Sorts};
 
-// Whether there is an order, and the places in it, then zeros.
-#[derive(Clone, Copy)]
-pub struct Order {
-    pub found: bool,
-    pub positions: [u8; 64],
-}
+use bits::Word;
 
 // The set of the places below n.
 fn all_below(n: usize) -> u64
@@ -21,46 +16,34 @@ fn all_below(n: usize) -> u64
 {
     let mut all: u64 = 0;
     for i in 0..n {
-        all = bits::with_bit64(all, i);
+        all = all.with_bit(i);
     }
     all
 }
 
-// The first pending place that may come before every pending one; 64 where there is none.
-fn first_free(rows: &[u64; 64], pending: u64) -> usize
+// The first pending place that may come before every pending one.
+fn first_free(rows: &[u64; 64], pending: u64) -> Option<usize>
     ensures { FirstFree rows.now pending result }
 {
-    let mut left = pending;
-    while left != 0 {
-        let i = bits::lowest64(left);
+    for i in bits::members(pending) {
         if rows[i] & pending == 0 {
-            return i;
+            return Some(i);
         }
-        left = bits::without_lowest64(left);
     }
-    64
+    None
 }
 
-// An order of the places below n, by these rows.
-pub fn sort(rows: &[u64; 64], n: usize) -> Order
+// The places below n in an order by these rows, then zeros.
+pub fn sort(rows: &[u64; 64], n: usize) -> Option<[u8; 64]>
     requires { n ≤ 64 }
-    ensures { Sorts rows.now n result.found result.positions }
+    ensures { Sorts rows.now n result }
 {
-    let mut positions: [u8; 64] = [0; 64];
+    let mut positions = [0; 64];
     let mut pending = all_below(n);
     for k in 0..n {
-        let i = first_free(rows, pending);
-        if i == 64 {
-            return Order {
-                found: false,
-                positions: positions,
-            };
-        }
-        positions[k] = (i % 64) as u8;
+        let i = first_free(rows, pending)?;
+        positions[k] = i as u8;
         pending = bits::without_bit64(pending, i);
     }
-    Order {
-        found: true,
-        positions: positions,
-    }
+    Some(positions)
 }

@@ -1,7 +1,7 @@
 -- Requests counted by answers that are written already, turn by turn: the first request of the rest has the first answer of the rest.
 use Prim.Native.Nat.{ℕ, suc, ◌+◌, ◌≤◌, ◌<◌}
 use native.Mathlib.Omega.{arith}
-use mathlib.Core.Path.{◌≡◌, refl, sym, ◌∙◌}
+use mathlib.Core.Path.{◌≡◌, sym, ◌∙◌}
 use mathlib.Core.List.{List}
 use lib.ListN.{length, get_or, drop, drop_of_length-le}
 use lib.Seq.{drop-cons}
@@ -10,7 +10,7 @@ use Rattle.policy.specs.Calls.{calls_of}
 use Rattle.policy.specs.Tallies.{counted_under}
 use Rattle.request.specs.declared.Parsed.{Parsed}
 use Rattle.request.specs.Parsed.{as_request, ParsedFrom}
-use Rattle.putting.proofs.Records.{calls_at, none_left, next_at_within, next_at_further}
+use Rattle.putting.proofs.Records.{calls_at, none_left, next_at_within}
 use Rattle.counts.specs.Counting.{with_one, with_requests}
 
 -- the counts so far, on which the rest of the requests and of the answers gives what all of them give on those before
@@ -19,17 +19,11 @@ pub record Answered (t : Tables) (requests answers counts₀ counts : List ℕ) 
   pub within : at ≤ length requests
   pub same : length counts ≡ length counts₀
 
-pub answered_none : (t : Tables) (requests answers counts : List ℕ) → Answered t requests answers counts counts 0 0
-answered_none t requests answers counts = record { rest = refl; within = omega arith; same = refl }
-
 module _ {t : Tables} {requests answers counts₀ counts : List ℕ} {at i : ℕ} (so_far : Answered t requests answers counts₀ counts at i) where
   module _ (below : at < length requests) where
     module _ {r : Parsed} (parsed : ParsedFrom (drop at requests) r) where
       pub answered_within : at + r.next ≤ length requests
       answered_within = rw parsed.onward (next_at_within requests at below)
-
-      pub answered_further : 0 < r.next
-      answered_further = rw parsed.onward (next_at_further requests at below)
 
       pub answered_more : i < length answers → {f n : ℕ} {later : List ℕ} → f ≡ counted_under t (as_request r) → n ≡ get_or answers i 0
           → later ≡ with_one counts f n → length later ≡ length counts

@@ -2,10 +2,8 @@
 use Rattle.std.specs.Prelude.{ℕ, ◌≡◌, List, length, drop}
 use Rattle.policy.specs.declared.Tables.{Tables}
 use Rattle.policy.specs.History.{zeros}
-use Rattle.policy.specs.Calls.{State, state, put_states, calls_of, answers_due, granted_in, refused_in}
+use Rattle.policy.specs.Calls.{State, put_states, calls_of, answers_due, granted_in, refused_in}
 use Rattle.putting.specs.Running.{run_numbers, Begun}
-use Rattle.keeping.specs.Keeping.{Kept as Keeping}
-use Rattle.running.specs.Kept.{Kept}
 use Rattle.counts.specs.Counting.{with_requests}
 
 -- the counts with one more for each request read in a run of the bytes
@@ -20,13 +18,6 @@ room requests = zeros (answers_due requests)
 pub record SoFar (t : Tables) (a₀ : State) (requests counts₀ : List ℕ) (at : ℕ) (a : State) (counts : List ℕ) : Type 0 where
   pub rest : counts_of t a₀ requests counts₀ ≡ counts_of t a (drop at requests) counts
   pub size : length counts ≡ 2080
-
--- a run over counts so far, of one that keeps: no buffer holds the levels yet
-pub record CountedKept (t : Tables) (a₀ : State) (requests counts₀ : List ℕ) (at i granted : ℕ) (h counts : List ℕ) (k : Keeping) : Type 0
-  where
-    pub answers : List ℕ
-    pub kept : Kept t a₀ requests (room requests) at i granted h answers k
-    pub counted : SoFar t a₀ requests counts₀ at (state h kept.levels) counts
 
 -- a run over counts so far
 pub record Counted (t : Tables) (a₀ : State) (requests counts₀ : List ℕ) (at i granted : ℕ) (a : State) (counts : List ℕ) : Type 0 where

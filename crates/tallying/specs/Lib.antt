@@ -1,2 +1,3 @@
 pub mod TallyIs
 pub mod Counted
+pub mod Raised

@@ -22,9 +22,9 @@ pub extern "C" fn timed_level_by_reads(
 ) -> u16
     ensures { result ≡ level_by_reads tables.now history.now person before }
 {
-    if history.len() != history::BYTES {
+    let Some(history) = history.as_array() else {
         return before;
-    }
+    };
     if person >= PERSONS {
         return before;
     }

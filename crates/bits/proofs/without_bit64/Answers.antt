@@ -15,18 +15,18 @@ overflow_shl-result c = omega (arith, mask_lt c.args.k 6)
 pub overflow_sub-result : goal.overflow_sub-result
 overflow_sub-result c =
     let args = c.args in
-    rw (masked_pow 6 args.k) (set_le args.n (args.k % 64) (sym c.bit64.ensures ∙ c.if-bit64.true))
+    rw (masked_pow 6 args.k) (set_le args.n (args.k % 64) (sym c.bit.ensures ∙ c.if-bit.true))
 
-pub returns-then-bit64 : goal.returns-then-bit64
+pub returns-then-bit : goal.returns-then-bit
 unfolding without_bit
-returns-then-bit64 c =
+returns-then-bit c =
     let args = c.args in
-    let set : bit args.n (args.k % 64) ≡ true = sym c.bit64.ensures ∙ c.if-bit64.true in
+    let set : bit args.n (args.k % 64) ≡ true = sym c.bit.ensures ∙ c.if-bit.true in
     rw (masked_pow 6 args.k, set)
 
 pub returns : goal.returns
 unfolding without_bit
 returns c =
     let args = c.args in
-    let unset : bit args.n (args.k % 64) ≡ false = sym c.bit64.ensures ∙ c.if-bit64.false in
+    let unset : bit args.n (args.k % 64) ≡ false = sym c.bit.ensures ∙ c.if-bit.false in
     rw unset

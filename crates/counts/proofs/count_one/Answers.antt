@@ -9,7 +9,7 @@ use Rattle.counts.proofs.count_one.Goals as goal
 pub returns-then-place-counts : goal.returns-then-place-counts
 unfolding with_one raised_at
 returns-then-place-counts c =
-    rw (le-ltb 64 c.args.firm (omega arith), le-ltb 31 c.args.number (omega arith), c.raise.ensures)
+    rw (le-ltb 64 c.args.firm (omega arith), le-ltb 31 c.args.number (omega arith), c.raise_at.ensures)
 
 pub returns-else-place-counts : goal.returns-else-place-counts
 unfolding with_one raised_at

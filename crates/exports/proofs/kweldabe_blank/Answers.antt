@@ -6,9 +6,9 @@ use Rattle.exports.proofs.kweldabe_blank.Goals as goal
 pub returns-then-given-ne-GRANTED : goal.returns-then-given-ne-GRANTED
 returns-then-given-ne-GRANTED c = blank_refused c.load-given.ensures c.if-given-ne-GRANTED.true _
 
-pub blank-requires : goal.blank-requires
-blank-requires c = loaded_tables _ c.load-given.ensures c.if-given-ne-GRANTED.false
+pub invariant_of-t : goal.invariant_of-t
+invariant_of-t c = record { given = loaded_tables _ c.load-given.ensures c.if-given-ne-GRANTED.false }
 
 pub returns : goal.returns
 returns c =
-    blank_loaded c.load-given.ensures c.if-given-ne-GRANTED.false _ _ _ c.blank.ensures
+    rw c.number_of.ensures (blank_loaded c.load-given.ensures c.if-given-ne-GRANTED.false _ _ _ c.blank.ensures)

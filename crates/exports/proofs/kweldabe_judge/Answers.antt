@@ -6,8 +6,8 @@ use Rattle.exports.proofs.kweldabe_judge.Goals as goal
 pub returns-then-given-ne-GRANTED : goal.returns-then-given-ne-GRANTED
 returns-then-given-ne-GRANTED c = judge_refused c.load-given.ensures c.if-given-ne-GRANTED.true _ _
 
-pub judge-requires : goal.judge-requires
-judge-requires c = loaded_tables _ c.load-given.ensures c.if-given-ne-GRANTED.false
+pub invariant_of-t : goal.invariant_of-t
+invariant_of-t c = record { given = loaded_tables _ c.load-given.ensures c.if-given-ne-GRANTED.false }
 
 pub returns : goal.returns
-returns c = c.judge.ensures ∙ judge_loaded c.load-given.ensures c.if-given-ne-GRANTED.false _ _
+returns c = c.number_of.ensures ∙ c.judge.ensures ∙ judge_loaded c.load-given.ensures c.if-given-ne-GRANTED.false _ _

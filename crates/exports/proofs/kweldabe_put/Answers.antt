@@ -10,12 +10,12 @@ returns-then-given-ne-GRANTED c = (
   put_refused c.load-given.ensures c.if-given-ne-GRANTED.true _ _,
 )
 
-pub put-requires : goal.put-requires
-put-requires c = loaded_tables _ c.load-given.ensures c.if-given-ne-GRANTED.false
+pub invariant_of-t : goal.invariant_of-t
+invariant_of-t c = record { given = loaded_tables _ c.load-given.ensures c.if-given-ne-GRANTED.false }
 
 pub returns : goal.returns
 returns c =
     let same = c.load-given.ensures in (
-      c.put.ensures.0 ∙ judge_loaded same c.if-given-ne-GRANTED.false _ _,
+      c.number_of.ensures ∙ c.put.ensures.0 ∙ judge_loaded same c.if-given-ne-GRANTED.false _ _,
       c.put.ensures.1 ∙ put_loaded same c.if-given-ne-GRANTED.false _ _,
     )

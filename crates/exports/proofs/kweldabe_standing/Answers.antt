@@ -7,8 +7,8 @@ use Rattle.exports.proofs.kweldabe_standing.Goals as goal
 pub returns-then-given-ne-GRANTED : goal.returns-then-given-ne-GRANTED
 returns-then-given-ne-GRANTED c = c.pack_standing.ensures ∙ standing_refused c.load-given.ensures c.if-given-ne-GRANTED.true _ _
 
-pub standing-found-requires : goal.standing-found-requires
-standing-found-requires c = loaded_tables _ c.load-given.ensures c.if-given-ne-GRANTED.false
+pub invariant_of-t : goal.invariant_of-t
+invariant_of-t c = record { given = loaded_tables _ c.load-given.ensures c.if-given-ne-GRANTED.false }
 
 pub returns : goal.returns
 returns c =

@@ -6,8 +6,8 @@ use Rattle.exports.proofs.kweldabe_tally.Goals as goal
 pub returns-then-given-ne-GRANTED : goal.returns-then-given-ne-GRANTED
 returns-then-given-ne-GRANTED c = tally_refused c.load-given.ensures c.if-given-ne-GRANTED.true _ _ _ _ c.pack_run.ensures
 
-pub tally-tallied-requires : goal.tally-tallied-requires
-tally-tallied-requires c = loaded_tables _ c.load-given.ensures c.if-given-ne-GRANTED.false
+pub invariant_of-t : goal.invariant_of-t
+invariant_of-t c = record { given = loaded_tables _ c.load-given.ensures c.if-given-ne-GRANTED.false }
 
 pub returns : goal.returns
 returns c =

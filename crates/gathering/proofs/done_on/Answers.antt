@@ -5,8 +5,7 @@ use Rattle.gathering.proofs.done_on.Goals as goal
 
 pub returns-then-steppers-persons-eq0 : goal.returns-then-steppers-persons-eq0
 returns-then-steppers-persons-eq0 c =
-    let known = c.shared_slice_known-1 in
-    none_done _ _ _ _ (λ k. (known.given k).fits) c.steppers.ensures c.if-steppers-persons-eq0.true
+    none_done _ _ _ _ c.fits-h c.steppers.ensures c.if-steppers-persons-eq0.true
 
 pub returns : goal.returns
-returns c = c.word16.ensures.0 ∙ c.steps_done.ensures
+returns c = c.from.ensures ∙ c.steps_done.ensures

@@ -4,9 +4,9 @@ use Rattle.policy.specs.Tables.{in_force}
 use Rattle.gathering.proofs.GatheredLaws.{unasked, has_holders}
 use Rattle.gathering.proofs.holders.Goals as goal
 
-pub returns-then-not-bit8 : goal.returns-then-not-bit8
+pub returns-then-not-in_force : goal.returns-then-not-in_force
 unfolding in_force
-returns-then-not-bit8 c = unasked _ _ _ _ _ _ (sym c.bit8.ensures ∙ c.if-not-bit8.true) refl
+returns-then-not-in_force c = unasked _ _ _ _ _ _ (sym c.in_force.ensures ∙ c.if-not-in_force.true) refl
 
 pub returns : goal.returns
 returns c = has_holders _ _ _ c.role_rows-rows.ensures c.turn.ensures

@@ -5,7 +5,6 @@ use Rattle.gathering.proofs.openers.Goals as goal
 
 pub returns : goal.returns
 returns c =
-    let at_first = c in
     sets_are
     (touched_in_lem _ _ _ _ c.touchers-low.ensures c.touchers-high.ensures
     c.add_words.ensures c.add_words-2.ensures)

@@ -5,8 +5,5 @@ use Rattle.gathering.proofs.users.Goals as goal
 
 pub returns : goal.returns
 returns c =
-    let at-steps = c in
-    let at-writes = c in
-    let at_reads = c in
     users_are _ _ _ _ c.add_recorded.ensures c.add_recorded-2.ensures c.add_steps.ensures
     c.starters.ensures refl

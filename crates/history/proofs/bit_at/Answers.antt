@@ -9,4 +9,4 @@ returns-then-at-h c = sym (bit_past _ c.args.i c.if-at-h.true)
 
 pub returns : goal.returns
 unfolding bit_at
-returns c = c.bit8.ensures
+returns c = c.bit.ensures

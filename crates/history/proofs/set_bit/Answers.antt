@@ -9,4 +9,4 @@ returns-then-at-h c = sym (with_past _ c.args.i c.if-at-h.true)
 
 pub returns : goal.returns
 unfolding with_bit_at
-returns c = rw c.with_bit8.ensures
+returns c = rw c.with_bit.ensures

@@ -1,10 +1,9 @@
--- `history::word_at` is the number of eight bytes, the first four below the others.
-use Rattle.history.specs.Words.{word_at}
-use Rattle.history.proofs.WordLaws.{bytes_joined}
+-- `history::word_at` is the number of the eight bytes from the place on, the first lowest: the first chunk of what follows the place has
+-- them in order.
+use Rattle.history.proofs.WordLaws.{word_of_chunk}
 use Rattle.history.proofs.word_at.Goals as goal
 
 pub returns : goal.returns
-unfolding word_at
 returns c =
-    let args = c.args in
-    bytes_joined 2 args.h.now args.at c.half_at.ensures.0 c.half_at-2.ensures.0 c.join.ensures
+    let chunk = rw c.unwrap.ensures at c.first_chunk.ensures.cases in
+    word_of_chunk c.args.h.now _ c.args.at c.requires chunk.same c.from_le_bytes.ensures

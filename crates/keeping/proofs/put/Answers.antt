@@ -1,23 +1,41 @@
--- `put` is what the function for the rules in force gives.
+-- `put` asks about what is in force: no rule of the mask is beyond what each call asks about.
+use mathlib.Core.Path.{refl, sym}
+use Rattle.policy.specs.Tables.{wall_rule, roles_rule, pipeline_rule}
+use Rattle.keeping.proofs.FewerLaws.{not_among}
 use Rattle.keeping.proofs.put.Goals as goal
 
-pub returns-then-mask-eq0 : goal.returns-then-mask-eq0
-returns-then-mask-eq0 c =
-    let args = c.args in
-    c.put_by_levels.ensures args.holders.now args.steps.now args.firms.now args.holding.now args.done.now
-    args.next.now args.folder args.class
+pub put_by-requires : goal.put_by-requires
+put_by-requires c =
+    let none = not_among c.args.fixed.now.mask 13 in
+    let e = c.if-fixed-eq0.true in (
+      c.requires.0,
+      c.requires.1,
+      record { walls = sym (none wall_rule e refl); rights = sym (none roles_rule e refl); steps = sym (none pipeline_rule e refl) },
+    )
 
-pub returns-then-mask-eq0-2 : goal.returns-then-mask-eq0-2
-returns-then-mask-eq0-2 c =
-    let args = c.args in
-    c.put_by_wall.ensures args.holders.now args.steps.now args.holding.now args.done.now args.next.now
+pub put_by-requires-then-fixed-eq0-2 : goal.put_by-requires-then-fixed-eq0-2
+put_by-requires-then-fixed-eq0-2 c =
+    let none = not_among c.args.fixed.now.mask 12 in
+    let e = c.if-fixed-eq0-2.true in (
+      c.requires.0,
+      c.requires.1,
+      record { walls = refl; rights = sym (none roles_rule e refl); steps = sym (none pipeline_rule e refl) },
+    )
 
-pub returns-then-mask-eq0-3 : goal.returns-then-mask-eq0-3
-returns-then-mask-eq0-3 c =
-    let args = c.args in
-    c.put_by_steps.ensures args.holders.now args.firms.now args.holding.now args.folder args.class
+pub put_by-requires-then-fixed-eq0-3 : goal.put_by-requires-then-fixed-eq0-3
+put_by-requires-then-fixed-eq0-3 c =
+    let none = not_among c.args.fixed.now.mask 5 in
+    let e = c.if-fixed-eq0-3.true in (
+      c.requires.0,
+      c.requires.1,
+      record { walls = sym (none wall_rule e refl); rights = sym (none roles_rule e refl); steps = refl },
+    )
 
-pub returns-then-mask-eq0-4 : goal.returns-then-mask-eq0-4
-returns-then-mask-eq0-4 c =
-    let args = c.args in
-    c.put_by_roles.ensures args.steps.now args.firms.now args.done.now args.next.now args.class
+pub put_by-requires-then-fixed-eq0-4 : goal.put_by-requires-then-fixed-eq0-4
+put_by-requires-then-fixed-eq0-4 c =
+    let none = not_among c.args.fixed.now.mask 9 in
+    let e = c.if-fixed-eq0-4.true in (
+      c.requires.0,
+      c.requires.1,
+      record { walls = sym (none wall_rule e refl); rights = refl; steps = sym (none pipeline_rule e refl) },
+    )

@@ -1,14 +1,22 @@
--- `put` is `judge_number` and leaves `put_state`: nothing changes where `lengths` refuses, and otherwise `putting` says both.
-use mathlib.Core.Path.{sym, ◌∙◌}
-use Rattle.loaded.proofs.CallLaws.{passed_ready, judge_refused, put_refused}
+-- `put` is `judge_number` and leaves `put_state`: nothing changes where a length is another one, and otherwise `putting` says both.
+use Rattle.std.proofs.lemmas.Result.{err_from_is_err_and}
+use Rattle.questions.proofs.Answered.{never_zero}
+use Rattle.loaded.proofs.CallLaws.{judge_refused, put_refused}
+use Rattle.loaded.proofs.Lent.{history_refused, levels_refused}
 use Rattle.loaded.proofs.put.Goals as goal
 
-pub returns-then-number-ne-GRANTED : goal.returns-then-number-ne-GRANTED
-returns-then-number-ne-GRANTED c =
-    let checks = c.lengths-number.ensures _ c.requires in
-    (judge_refused _ _ _ _ checks c.if-number-ne-GRANTED.true, put_refused _ _ _ _ checks c.if-number-ne-GRANTED.true)
+pub returns-in_err-h : goal.returns-in_err-h
+returns-in_err-h c =
+    let p = err_from_is_err_and c.from_residual.result c.from_residual.ensures.1 in
+    let checks = history_refused c.args.t.now.tables c.args.h.now c.args.levels.now _ _ c.in_err-h.ensures.value c.as_mut_array.ensures.cases in
+    let other = never_zero c.in_err-h.field-0.0 in
+    rw (p.1, p.2) (judge_refused _ _ _ _ checks other, put_refused _ _ _ _ checks other)
 
-pub put-requires : goal.put-requires
-put-requires c =
-    let checks = c.lengths-number.ensures _ c.requires in
-    passed_ready _ _ (sym checks ∙ c.if-number-ne-GRANTED.false)
+pub returns-in_err-levels : goal.returns-in_err-levels
+returns-in_err-levels c =
+    let p = err_from_is_err_and c.from_residual-in_err-levels.result c.from_residual-in_err-levels.ensures.1 in
+    let h = rw c.in_ok-h.ensures.ok_part at c.as_mut_array.ensures.cases in
+    let checks =
+    levels_refused c.args.t.now.tables c.args.h.now c.args.levels.now _ h.long _ c.in_err-levels.ensures.value c.as_mut_array-2.ensures.cases in
+    let other = never_zero c.in_err-levels.field-0.0 in
+    rw (p.1, p.2, h.same) (judge_refused _ _ _ _ checks other, put_refused _ _ _ _ checks other)

@@ -1,10 +1,9 @@
 -- `put` gives what `checked` refuses its number, and leaves the rest to the call on tables that a load gives.
-use mathlib.Core.Path.{sym, ◌∙◌}
-use Rattle.loaded.proofs.CallLaws.{passed_ready, judge_refused, put_refused}
+use Rattle.questions.proofs.Answered.{never_zero}
+use Rattle.loaded.proofs.CallLaws.{judge_refused, put_refused}
 use Rattle.monitor.proofs.put.Goals as goal
 
-pub returns-then-number-ne-GRANTED : goal.returns-then-number-ne-GRANTED
-returns-then-number-ne-GRANTED c = (judge_refused _ _ _ _ c.checked-number.ensures c.if-number-ne-GRANTED.true, put_refused _ _ _ _ c.checked-number.ensures c.if-number-ne-GRANTED.true)
-
-pub put-requires : goal.put-requires
-put-requires c = (passed_ready _ _ (sym c.checked-number.ensures ∙ c.if-number-ne-GRANTED.false)).tables
+pub returns-in-Err : goal.returns-in-Err
+returns-in-Err c =
+    let other = never_zero c.in-Err.refusal in
+    rw c.from.ensures (judge_refused _ _ _ _ c.in-Err.ensures.err other, put_refused _ _ _ _ c.in-Err.ensures.err other)

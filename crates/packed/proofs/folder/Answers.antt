@@ -6,4 +6,4 @@ use Rattle.packed.proofs.folder.Goals as goal
 
 pub returns : goal.returns
 unfolding level_in folder_of
-returns c = rw c.bit64.ensures (sym (folder_at_lem _ _ c.requires))
+returns c = rw c.bit.ensures (sym (folder_at_lem _ _ c.requires))

@@ -12,4 +12,4 @@ returns c =
     let start = c in
     let s = c.args.s in
     let own : s % 64 ≡ s = omega (arith, c.requires) in
-    rw (c.bit64.ensures, own) (sym (person_at_lem _ s c.requires))
+    rw (c.bit.ensures, own) (sym (person_at_lem _ s c.requires))

@@ -13,4 +13,4 @@ pub returns : goal.returns
 returns c =
     let args = c.args in
     ap (λ (n : ℕ). not (eqb (bit_and n args.persons) 0)) c.word_at.ensures
-    ∙ starts_word args.h.now args.s args.persons (λ k. (c.shared_slice_known-1.given k).fits) (search rules)
+    ∙ starts_word args.h.now args.s args.persons c.fits-h (search rules)

@@ -29,25 +29,25 @@ past_over-low-requires c =
     let start = c in
     let args = c.args in
     let pre = c.requires in
-    let stepped = folders_low (stepped_at args.h.now args.s) pre.4 in
-    (pre.0, pre.1, pre.2, refl, omega arith, stepped, past_start args.t (set_of args.h.now) args.s)
+    let stepped = folders_low (stepped_at args.h.now args.s) pre.2 in
+    (pre.0, refl, omega arith, stepped, past_start args.t.now.tables (set_of args.h.now) args.s)
 
 pub past_over-past-requires : goal.past_over-past-requires
 past_over-past-requires c =
     let start = c in
     let args = c.args in
     let pre = c.requires in
-    (pre.0, pre.1, pre.2, refl, omega arith, folders_high (stepped_at args.h.now args.s) pre.4, c.past_over-low.ensures)
+    (pre.0, refl, omega arith, folders_high (stepped_at args.h.now args.s) pre.2, c.past_over-low.ensures)
 
 pub has_started-requires : goal.has_started-requires
 has_started-requires c =
     let start = c in
-    (c.requires.0, person_below_lem _ _ c.requires.2)
+    (person_below_lem _ _ c.requires.0)
 
 pub returns : goal.returns
 returns c =
     let start = c in
     let args = c.args in
     let folders = c.past_over-past in
-    answer args.t args.h.now args.s c.requires.2 c.requires.3 c.requires.5 folders.result folders.ensures
+    answer args.t.now.tables args.h.now args.s c.requires.0 c.requires.1 c.requires.3 folders.result folders.ensures
     c.has_started.ensures c.rights_with.ensures

@@ -36,37 +36,37 @@ words-lead t h s person g first small place l r w p before =
 pub overflow_mul-s : goal.overflow_mul-s
 overflow_mul-s c =
     let start = c in
-    omega (arith, c.requires.0, c.requires.4, person_below_lem c.args.t c.args.s c.requires.2)
+    omega (arith, c.requires.2, person_below_lem c.args.t.now.tables c.args.s c.requires.0)
 
 pub overflow_add-s : goal.overflow_add-s
 overflow_add-s c =
     let start = c in
-    omega (arith, c.requires.0, c.requires.4, person_below_lem c.args.t c.args.s c.requires.2)
+    omega (arith, c.requires.2, person_below_lem c.args.t.now.tables c.args.s c.requires.0)
 
 pub word_at-read-requires : goal.word_at-read-requires
 word_at-read-requires c =
     let start = c in
-    omega (arith, c.requires.0, c.requires.4, person_below_lem c.args.t c.args.s c.requires.2)
+    omega (arith, c.requires.2, person_below_lem c.args.t.now.tables c.args.s c.requires.0)
 
 pub overflow_mul-s-2 : goal.overflow_mul-s-2
 overflow_mul-s-2 c =
     let start = c in
-    omega (arith, c.requires.0, c.requires.4, person_below_lem c.args.t c.args.s c.requires.2)
+    omega (arith, c.requires.2, person_below_lem c.args.t.now.tables c.args.s c.requires.0)
 
 pub overflow_add-s-2 : goal.overflow_add-s-2
 overflow_add-s-2 c =
     let start = c in
-    omega (arith, c.requires.0, c.requires.4, person_below_lem c.args.t c.args.s c.requires.2)
+    omega (arith, c.requires.2, person_below_lem c.args.t.now.tables c.args.s c.requires.0)
 
 pub overflow_add-s-3 : goal.overflow_add-s-3
 overflow_add-s-3 c =
     let start = c in
-    omega (arith, c.requires.0, c.requires.4, person_below_lem c.args.t c.args.s c.requires.2)
+    omega (arith, c.requires.2, person_below_lem c.args.t.now.tables c.args.s c.requires.0)
 
 pub word_at-wrote-requires : goal.word_at-wrote-requires
 word_at-wrote-requires c =
     let start = c in
-    omega (arith, c.requires.0, c.requires.4, person_below_lem c.args.t c.args.s c.requires.2)
+    omega (arith, c.requires.2, person_below_lem c.args.t.now.tables c.args.s c.requires.0)
 
 pub returns-then-set-eq0 : goal.returns-then-set-eq0
 returns-then-set-eq0 c =
@@ -74,9 +74,9 @@ returns-then-set-eq0 c =
     let start = c in
     let args = c.args in
     visit_end
-    (words-lead args.t args.h.now args.s c.requires.2 c.requires.1 args.first
-    (λ k. (c.shared_slice_known-1.given k).fits) c.requires.3 c.requires.4
-    c.word_at-read.ensures c.word_at-wrote.ensures c.requires.5 c.requires.6)
+    (words-lead args.t.now.tables args.h.now args.s c.requires.0 c.args.t.now.given args.first
+    c.fits-h c.requires.1 c.requires.2
+    c.word_at-read.ensures c.word_at-wrote.ensures c.requires.3 c.requires.4)
     c.if-set-eq0.true
 
 pub returns : goal.returns
@@ -86,7 +86,7 @@ returns c =
     let start = c in
     let args = c.args in
     c.past_visiting.ensures
-    ∙ (words-lead args.t args.h.now args.s c.requires.2 c.requires.1 args.first
-    (λ k. (c.shared_slice_known-1.given k).fits) c.requires.3 c.requires.4
-    c.word_at-read.ensures c.word_at-wrote.ensures c.requires.5
-    c.requires.6).same
+    ∙ (words-lead args.t.now.tables args.h.now args.s c.requires.0 c.args.t.now.given args.first
+    c.fits-h c.requires.1 c.requires.2
+    c.word_at-read.ensures c.word_at-wrote.ensures c.requires.3
+    c.requires.4).same

@@ -1,51 +1,55 @@
 -- `past::past_visiting` answers what a person did after the folders of a set: before each turn the folders that are left lead to it.
 use Prim.Native.Nat.{◌%◌}
 use native.Mathlib.Omega.{arith}
-use mathlib.Core.Path.{◌≡◌, refl, ◌∙◌}
+use mathlib.Core.Path.{◌≡◌, ◌∙◌}
 use Rattle.past.specs.Turns.{past_turn, past_visiting}
 use Rattle.recorded.proofs.Recorded.{entry_below}
-use Rattle.recorded.proofs.VisitLaws.{visited_lt, visit_less, visit_next, visit_end}
+use Rattle.recorded.proofs.VisitLaws.{visited_lt, visit_next, visit_end}
 use borrow.Author.Rules.{rules}
 use Rattle.past.proofs.past_visiting.Goals as goal
 
-pub loop-rest-init : goal.loop-rest-init
+pub loop-i-init : goal.loop-i-init
 unfolding past_visiting
-loop-rest-init c = record { fits = search rules; same = refl }
+loop-i-init c =
+    let all : c.into_iter-i-iterator.result.0 ≡ c.args.set =
+    rw c.into_iter-i-iterator.ensures.into_iter_gives c.members-i-items.ensures in
+    record { fits = rw all (search rules); same = rw all }
 
 pub overflow_add-folder : goal.overflow_add-folder
 overflow_add-folder c =
-    let inside = visited_lt c.loop-rest.invariant (omega arith) c.lowest64-i.ensures in
-    omega (arith, inside, c.requires.1)
+    let steps = c.in-Some.ensures.steps in
+    let inside = visited_lt c.loop-i.invariant steps.0 steps.1 in
+    omega (arith, inside, c.requires)
 
 pub offset_bounds-t-first : goal.offset_bounds-t-first
 offset_bounds-t-first c =
-    let inside = visited_lt c.loop-rest.invariant (omega arith) c.lowest64-i.ensures in
-    omega (arith, inside, c.requires.1)
+    let steps = c.in-Some.ensures.steps in
+    let inside = visited_lt c.loop-i.invariant steps.0 steps.1 in
+    omega (arith, inside, c.requires)
 
 pub bounds-t-first : goal.bounds-t-first
 bounds-t-first c =
-    let inside = visited_lt c.loop-rest.invariant (omega arith) c.lowest64-i.ensures in
-    omega (arith, inside, c.requires.1)
+    let steps = c.in-Some.ensures.steps in
+    let inside = visited_lt c.loop-i.invariant steps.0 steps.1 in
+    omega (arith, inside, c.requires)
 
 pub past_with-past-requires : goal.past_with-past-requires
 past_with-past-requires c =
     let lowest = c in
     let start = c in
-    let inside = visited_lt c.loop-rest.invariant (omega arith) c.lowest64-i.ensures in
-    entry_below c.args.t c.requires.0 _ (omega (arith, inside, c.requires.1))
+    let steps = c.in-Some.ensures.steps in
+    let inside = visited_lt c.loop-i.invariant steps.0 steps.1 in
+    entry_below c.args.t.now.tables c.args.t.now.given _ (omega (arith, inside, c.requires))
 
-pub loop-rest-smaller : goal.loop-rest-smaller
-loop-rest-smaller c = visit_less c.loop-rest.invariant (omega arith) c.without_lowest64-rest.ensures
-
-pub loop-rest-preserved : goal.loop-rest-preserved
+pub loop-i-preserved : goal.loop-i-preserved
 unfolding past_turn
-loop-rest-preserved c =
-    let loop = c.loop-rest in
-    let lowest = c.lowest64-i in
-    let inside = visited_lt loop.invariant (omega arith) lowest.ensures in
-    let own : lowest.result % 64 ≡ lowest.result = omega (arith, inside) in
-    visit_next loop.invariant (omega arith) lowest.ensures c.without_lowest64-rest.ensures
-    (c.past_with-past.ensures ∙ rw (c.bit64.ensures, c.bit64-in-loop-rest.ensures, own))
+loop-i-preserved c =
+    let loop = c.loop-i in
+    let steps = c.in-Some.ensures.steps in
+    let inside = visited_lt loop.invariant steps.0 steps.1 in
+    let own : c.in-Some.i % 64 ≡ c.in-Some.i = omega (arith, inside) in
+    visit_next loop.invariant steps.0 steps.1 steps.2
+    (c.past_with-past.ensures ∙ rw (c.bit.ensures, c.bit-in-loop-i.ensures, own))
 
 pub returns : goal.returns
-returns c = visit_end c.loop-rest.invariant (omega arith)
+returns c = visit_end c.loop-i.invariant c.in-None.ensures.steps.0

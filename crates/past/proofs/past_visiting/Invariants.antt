@@ -3,10 +3,6 @@ use Rattle.past.specs.Turns.{past_turn, past_visiting}
 use Rattle.recorded.specs.Visits.{Leads}
 use Rattle.past.proofs.past_visiting.Given as goal
 
-abbrev pub invariant-loop-rest : goal.invariant-loop-rest
-invariant-loop-rest l =
-    Leads (past_turn l.t l.first l.read l.wrote) (past_visiting l.t l.first l.read l.wrote l.set l.initial.past) l.rest l.past
-
-abbrev pub decreases-loop-rest : goal.decreases-loop-rest
-decreases-loop-rest l =
-    l.rest
+abbrev pub invariant-loop-i : goal.invariant-loop-i
+invariant-loop-i l =
+    Leads (past_turn l.t.tables l.first l.read l.wrote) (past_visiting l.t.tables l.first l.read l.wrote l.set l.initial.past) l.i-iterator.0 l.past

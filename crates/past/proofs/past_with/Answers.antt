@@ -14,7 +14,7 @@ returns-then-not-folder c = rw (not-true c.args.folder.declared c.if-not-folder.
 pub returns : goal.returns
 unfolding past_with
 returns c =
-    let opens = c.with_bit64 in
+    let opens = c.with_bit in
     let writes = c.with_bit64_if-2 in
     let reads = c.with_bit64_if in
     let tested = c in
@@ -25,4 +25,4 @@ returns c =
     let kind : folder.kind % 64 ≡ folder.kind = omega arith in
     let above : (16 + folder.kind) % 64 ≡ 16 + folder.kind = omega arith in
     let firm = mod-eq_of_lt (c.requires.firm declared) in
-    rw (declared, opens.ensures, writes.ensures, reads.ensures, kind, above, firm)
+    rw (declared, opens.ensures, writes.ensures, reads.ensures, c.from-kind.ensures, c.from-firm.ensures, kind, above, firm)

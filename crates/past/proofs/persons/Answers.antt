@@ -1,5 +1,5 @@
 -- `persons` is the set of the declared persons: before each turn it has those below the number reached.
-use Prim.Native.Nat.{◌-◌, ◌%◌}
+use Prim.Native.Nat.{◌%◌}
 use native.Mathlib.Omega.{arith}
 use mathlib.Core.Path.{◌≡◌, sym, ◌∙◌}
 use borrow.Author.Tests.{lt-ltb}
@@ -15,7 +15,7 @@ pub loop-s-preserved : goal.loop-s-preserved
 unfolding person_declared
 loop-s-preserved c =
     let loop = c.loop-s in
-    let t = c.args.t in
+    let t = c.args.t.now in
     let s = loop.s in
     let own : s % 64 ≡ s = omega arith in
     let entry : person_declared t s ≡ (person_at t s).declared = rw (lt-ltb s 64 (omega arith)) in

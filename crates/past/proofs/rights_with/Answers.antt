@@ -13,7 +13,7 @@ pub returns : goal.returns
 unfolding rights_with
 returns c =
     let args = c.args in
-    let word = c.word16 in
+    let word = c.from in
     let shifted : word.result * 2 ^ 48 % 2 ^ 64 ≡ args.steps * 2 ^ 48 =
-    shl_exact 16 48 64 (omega (arith, word.ensures.1)) (lit≤ tt) ∙ ap (λ (n : ℕ). n * 2 ^ 48) word.ensures.0 in
+    shl_exact 16 48 64 (omega (arith, word.ensures)) (lit≤ tt) ∙ ap (λ (n : ℕ). n * 2 ^ 48) word.ensures in
     c.with_bit64_if.ensures ∙ ap (λ (n : ℕ). with_bit_if args.starts (bit_or args.rights n) 32) shifted

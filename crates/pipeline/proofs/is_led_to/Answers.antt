@@ -1,31 +1,16 @@
--- `is_led_to` holds where some step leads to q: before each turn no step below the number reached does.
-use Prim.Native.Nat.{◌-◌}
-use native.Mathlib.Omega.{arith}
-use mathlib.Core.Path.{◌≡◌, sym, ◌∙◌}
-use mathlib.Core.Bool.{false}
-use Rattle.bits.proofs.Bounds.{any_start, some_any, any_none}
+-- `is_led_to` holds where some step leads to q: the numbers below 16 are asked one after another.
+use mathlib.Core.Path.{refl, ◌∙◌}
+use Rattle.std.proofs.lemmas.Iterator.{YieldsList-from_range}
+use Rattle.std.proofs.lemmas.Iterator.Search.{any_from_yields_List}
 use Rattle.pipeline.specs.Steps.{leads_among}
+use Rattle.pipeline.proofs.StepLaws.{any_listed}
 use borrow.Author.Rules.{rules}
 use Rattle.pipeline.proofs.is_led_to.Goals as goal
 
-pub loop-p-init : goal.loop-p-init
-loop-p-init c = (search rules, any_start _)
-
-pub returns-then-leads_to : goal.returns-then-leads_to
-unfolding leads_among
-returns-then-leads_to c =
-    let loop = c.loop-p in
-    sym (some_any 16 _ loop.p (omega arith) (sym c.leads_to.ensures ∙ c.if-leads_to.true))
-
-pub loop-p-preserved : goal.loop-p-preserved
-unfolding leads_among
-loop-p-preserved c = (
-  search rules,
-  any_none _ _ c.loop-p.invariant.1
-      (sym c.leads_to.ensures ∙ c.if-leads_to.false),
-)
-
 pub returns : goal.returns
+unfolding leads_among
 returns c =
-    let e : c.loop-p.p ≡ 16 = omega arith in
-    sym (rw e at c.loop-p.invariant.1)
+    let args = c.args in
+    any_from_yields_List (leads_among args.steps.now args.done args.q) _ _ _ c.any.ensures.ran
+    (YieldsList-from_range 0 16 16 refl refl) (λ x b q k. search rules)
+    ∙ any_listed _ 16

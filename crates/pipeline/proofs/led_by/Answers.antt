@@ -9,18 +9,18 @@ use Rattle.pipeline.proofs.NextLaws.{led_some, led_none}
 use borrow.Author.Rules.{rules}
 use Rattle.pipeline.proofs.led_by.Goals as goal
 
-pub returns-then-both : goal.returns-then-both
-returns-then-both c =
+pub returns-then-bit-enabled : goal.returns-then-bit-enabled
+returns-then-bit-enabled c =
     let args = c.args in
     let test : bit args.done (args.p % 16) && eqb (bit_and args.enabled args.done) 0 ≡ true =
-    sym (c.both.ensures ∙ ap (λ (b : Bool). b && eqb (bit_and args.enabled args.done) 0) c.bit16.ensures)
-    ∙ c.if-both.true in
+    sym (ap (λ (b : Bool). b && eqb (bit_and args.enabled args.done) 0) c.bit.ensures)
+    ∙ c.if-bit-enabled.true in
     led_some _ _ _ (search rules) test
 
 pub returns : goal.returns
 returns c =
     let args = c.args in
     let test : bit args.done (args.p % 16) && eqb (bit_and args.enabled args.done) 0 ≡ false =
-    sym (c.both.ensures ∙ ap (λ (b : Bool). b && eqb (bit_and args.enabled args.done) 0) c.bit16.ensures)
-    ∙ c.if-both.false in
+    sym (ap (λ (b : Bool). b && eqb (bit_and args.enabled args.done) 0) c.bit.ensures)
+    ∙ c.if-bit-enabled.false in
     led_none _ _ _ test

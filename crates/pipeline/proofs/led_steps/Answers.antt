@@ -1,5 +1,4 @@
 -- `led_steps` joins what each step leads to: before turn p the set has the steps to which a step below p leads.
-use Prim.Native.Nat.{◌-◌}
 use native.Mathlib.Omega.{arith}
 use mathlib.Core.Path.{◌≡◌, ◌∙◌}
 use Rattle.pipeline.proofs.NextLaws.{next_start, next_more, next_all}
@@ -16,5 +15,5 @@ pub returns : goal.returns
 returns c =
     let looped = c.loop-p in
     let all : looped.p ≡ 16 = omega arith in
-    c.word16.ensures.0 ∙ next_all _ _ (λ e. let z : ⊥ = omega (arith, c.requires, e) in z)
+    c.from.ensures ∙ next_all _ _ (λ e. let z : ⊥ = omega (arith, c.requires, e) in z)
     (rw all at looped.invariant.1)

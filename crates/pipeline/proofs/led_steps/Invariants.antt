@@ -1,5 +1,5 @@
 -- `led_steps` joins what each step leads to: before turn p the set has the steps to which a step below p leads.
-use Prim.Native.Nat.{◌-◌, ◌≤◌}
+use Prim.Native.Nat.{◌≤◌}
 use mathlib.Core.Path.{◌≡◌}
 use Rattle.pipeline.proofs.NextLaws.{next_below}
 use Rattle.pipeline.proofs.led_steps.Given as goal
@@ -7,7 +7,3 @@ use Rattle.pipeline.proofs.led_steps.Given as goal
 abbrev pub invariant-loop-p : goal.invariant-loop-p
 invariant-loop-p l =
     (l.p ≤ 16) × (l.next ≡ next_below l.steps l.done l.p)
-
-abbrev pub decreases-loop-p : goal.decreases-loop-p
-decreases-loop-p l =
-    16 - l.p

@@ -1,6 +1,6 @@
 -- `steps_done` is the mask of steps that some of the persons did: before each turn it has those below the number reached, each by one
 -- word of the history.
-use Prim.Native.Nat.{◌-◌, ◌%◌}
+use Prim.Native.Nat.{◌%◌}
 use native.Mathlib.Omega.{arith}
 use mathlib.Core.Path.{◌≡◌, sym, ◌∙◌}
 use Rattle.bits.proofs.Masks.{mask_start, mask_step}
@@ -10,9 +10,6 @@ use Rattle.pipeline.proofs.steps_done.Goals as goal
 
 pub loop-p-init : goal.loop-p-init
 loop-p-init c = (search rules, sym (mask_start _))
-
-pub word_at-requires : goal.word_at-requires
-word_at-requires c = omega arith
 
 pub loop-p-preserved : goal.loop-p-preserved
 unfolding done_by

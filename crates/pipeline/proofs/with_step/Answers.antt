@@ -3,7 +3,7 @@ use borrow.Author.Tests.{eq-eqb, ne_eqb}
 use Rattle.pipeline.proofs.with_step.Goals as goal
 
 pub returns-then-doers-ne0 : goal.returns-then-doers-ne0
-returns-then-doers-ne0 c = rw (ne_eqb _ _ c.if-doers-ne0.true) c.with_bit16.ensures
+returns-then-doers-ne0 c = rw (ne_eqb _ _ c.if-doers-ne0.true) c.with_bit.ensures
 
 pub returns-else-doers-ne0 : goal.returns-else-doers-ne0
 returns-else-doers-ne0 c = rw (eq-eqb _ _ c.if-doers-ne0.false)

@@ -1,9 +1,9 @@
 -- `are_plannable` asks one job after another: before turn i each of the jobs below i can be planned.
-use Prim.Native.Nat.{◌*◌, ◌-◌, ◌/◌}
+use Prim.Native.Nat.{◌*◌, ◌/◌}
 use native.Mathlib.Omega.{arith}
-use mathlib.Core.Path.{◌≡◌, sym, ◌∙◌}
+use mathlib.Core.Path.{◌≡◌, sym, ap, ◌∙◌}
 use lib.ListN.{length}
-use Rattle.planning.proofs.PlannableLaws.{planned_more, planned_by, too_long_lem, cut_short, not_planned, all_planned}
+use Rattle.planning.proofs.PlannableLaws.{planned, planned_more, too_long_lem, cut_short, not_planned, all_planned}
 use borrow.Author.Rules.{rules}
 use Rattle.planning.proofs.are_plannable.Goals as goal
 
@@ -21,21 +21,14 @@ returns-then-not-is_plannable c =
     let bytes = c.args.jobs.now in
     let whole : length bytes ≡ 4 * (length bytes / 4) = omega (arith, c.if-left-ne0.false) in
     not_planned _ bytes (length bytes / 4) c.loop-i.i whole (omega arith)
-    (sym
-    (planned_by _ bytes c.loop-i.i _ _ (omega (arith, whole)) c.wide-s.ensures.0 c.wide-o.ensures.0
-    c.is_plannable.ensures)
-    ∙ c.if-not-is_plannable.true)
+    (ap (planned c.args.t.now) (sym c.job_at.ensures) ∙ sym c.is_plannable.ensures ∙ c.if-not-is_plannable.true)
 
 pub loop-i-preserved : goal.loop-i-preserved
 loop-i-preserved c =
-    let bytes = c.args.jobs.now in
-    let whole : length bytes ≡ 4 * (length bytes / 4) = omega (arith, c.if-left-ne0.false) in (
+    let bytes = c.args.jobs.now in (
       search rules,
       planned_more _ bytes c.loop-i.i c.loop-i.invariant.1
-          (sym
-          (planned_by _ bytes c.loop-i.i _ _ (omega (arith, whole)) c.wide-s.ensures.0 c.wide-o.ensures.0
-          c.is_plannable.ensures)
-          ∙ c.if-not-is_plannable.false),
+          (ap (planned c.args.t.now) (sym c.job_at.ensures) ∙ sym c.is_plannable.ensures ∙ c.if-not-is_plannable.false),
     )
 
 pub returns : goal.returns

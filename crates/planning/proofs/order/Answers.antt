@@ -6,4 +6,4 @@ use Rattle.planning.proofs.order.Goals as goal
 pub returns : goal.returns
 returns c =
     sorted_jobs _ _ _ (jobs_length _ _ c.requires.1) c.requires.2 c.sides-sides.ensures c.rows-rows.ensures
-    c.sort.ensures
+    _ c.sort.ensures

@@ -1,9 +1,9 @@
 -- `extent_of` counts a record for each turn, and comes to where no whole record stands: the count and the answers due for the rest of the
 -- requests are always the answers due for all of them, and the turns that are left come to where the whole records end.
-use Prim.Native.Nat.{◌-◌, ◌<◌}
+use Prim.Native.Nat.{◌<◌}
 use native.Mathlib.Omega.{arith}
 use mathlib.Core.Path.{◌≡◌, sym, ◌∙◌}
-use lib.ListN.{length, drop}
+use lib.ListN.{drop}
 use borrow.Author.Rules.{part_to_end}
 use Rattle.request.specs.Parsed.{whole_length}
 use Rattle.putting.proofs.Records.{none_due}

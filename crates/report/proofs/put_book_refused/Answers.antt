@@ -20,7 +20,7 @@ put_two_numbers-requires c =
     let word = c.put_bytes-at in
     let first = byte_length args.number (search rules) in
     let second = decimal_length args.offset (search rules) in
-    rw two_numbers_length (omega (arith, c.if-out-lt64.false, word.ensures.end, word.auto.out, first, second))
+    rw (c.from.ensures, two_numbers_length) (omega (arith, c.if-out-lt64.false, word.ensures.end, word.auto.out, first, second))
 
 pub returns : goal.returns
 unfolding book_refused book_word at_word
@@ -28,5 +28,5 @@ returns c =
     let tested = c in
     let word = c.put_bytes-at in
     let numbers = c.put_two_numbers in
-    let all = put_more (omega arith) word.ensures numbers.ensures in
+    let all = put_more (omega arith) word.ensures (rw c.from.ensures at numbers.ensures) in
     line_all c.if-out-lt64.false (numbers.auto.out ∙ word.auto.out) all

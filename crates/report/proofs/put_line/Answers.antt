@@ -9,8 +9,9 @@ pub put_two_numbers-requires : goal.put_two_numbers-requires
 unfolding line space
 put_two_numbers-requires c =
     let start = c in
-    omega (arith, c.requires, line_length c.args.place c.args.number (search rules) (search rules))
+    rw c.from.ensures
+    (omega (arith, c.requires, line_length c.args.place c.args.number (search rules) (search rules)))
 
 pub returns : goal.returns
 unfolding line space
-returns c = c.put_two_numbers.ensures
+returns c = rw c.from.ensures at c.put_two_numbers.ensures

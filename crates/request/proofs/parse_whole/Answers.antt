@@ -11,10 +11,10 @@ bounds-bytes-0 c = omega (arith, whole_long _ c.requires)
 pub bounds-bytes-1 : goal.bounds-bytes-1
 bounds-bytes-1 c = omega (arith, whole_long _ c.requires)
 
-pub bounds-bytes-extra : goal.bounds-bytes-extra
-bounds-bytes-extra c =
+pub bounds-bytes-more : goal.bounds-bytes-more
+bounds-bytes-more c =
     let start = c in
-    omega (arith, whole_there _ c.requires _ c.longer-extra.ensures.0)
+    omega (arith, whole_there _ c.requires _ c.longer-more.ensures.0)
 
 pub bounds-bytes-2 : goal.bounds-bytes-2
 bounds-bytes-2 c = omega (arith, whole_long _ c.requires)
@@ -24,7 +24,7 @@ unfolding as_request
 returns c =
     let whole = c.requires in
     let bytes = c.args.bytes.now in
-    let more = c.longer-extra.ensures.0 in
+    let more = c.longer-more.ensures.0 in
     let low = whole_low bytes whole in
     let high = whole_high bytes whole in (
       record {

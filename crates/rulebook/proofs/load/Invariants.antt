@@ -4,8 +4,8 @@ use Rattle.std.proofs.Common.{◌-◌, length}
 use Rattle.rulebook.proofs.LoadLaws.{Left}
 use Rattle.rulebook.proofs.load.Given as goal
 
-abbrev pub invariant-loop-number : goal.invariant-loop-number
-invariant-loop-number l = Left l.book l.at l.t
+abbrev pub invariant-loop-r : goal.invariant-loop-r
+invariant-loop-r l = Left l.book l.at l.t
 
-abbrev pub decreases-loop-number : goal.decreases-loop-number
-decreases-loop-number l = length l.book - l.at
+abbrev pub decreases-loop-r : goal.decreases-loop-r
+decreases-loop-r l = length l.book - l.at

@@ -5,7 +5,7 @@ use Rattle.rules.proofs.classes.Given as goal
 
 abbrev pub invariant-loop-f : goal.invariant-loop-f
 invariant-loop-f l =
-    (l.f ≤ 64) × ClassesBelow l.t l.f l.sets
+    (l.f ≤ 64) × ClassesBelow l.t.tables l.f l.sets
 
 abbrev pub decreases-loop-f : goal.decreases-loop-f
 decreases-loop-f l =

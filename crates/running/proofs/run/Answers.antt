@@ -7,14 +7,8 @@ use Rattle.running.proofs.run.Goals as goal
 
 pub run_from-requires : goal.run_from-requires
 run_from-requires c =
-    let begun = c.begin-ran.ensures in (
-      begun.done.ready,
-      done_room begun.done begun.within begun.further (omega (
-        arith,
-        c.requires.1,
-        begun.same,
-      )),
-    )
+    let begun = c.begin-ran.ensures in
+    done_room begun.done begun.within begun.further (omega (arith, c.requires.0, begun.same))
 
 pub returns : goal.returns
 returns c =

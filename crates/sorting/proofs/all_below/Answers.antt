@@ -1,5 +1,5 @@
 -- `all_below` puts each place below n into the set, the lowest first.
-use Prim.Native.Nat.{ℕ, ◌-◌}
+use Prim.Native.Nat.{ℕ}
 use native.Mathlib.Nat.{mod-eq_of_lt}
 use native.Mathlib.Omega.{arith}
 use mathlib.Core.Path.{◌≡◌, sym, ap, ◌∙◌}
@@ -14,7 +14,7 @@ loop-i-init c = (search rules, sym (mask_start _))
 pub loop-i-preserved : goal.loop-i-preserved
 loop-i-preserved c =
     let loop = c.loop-i in
-    (search rules, mask_step loop.i _ loop.invariant.1 (c.with_bit64-all.ensures ∙ ap (with_bit _) (mod-eq_of_lt (omega arith))))
+    (search rules, mask_step loop.i _ loop.invariant.1 (c.with_bit-all.ensures ∙ ap (with_bit _) (mod-eq_of_lt (omega arith))))
 
 pub returns : goal.returns
 returns c =

@@ -3,10 +3,6 @@ use Prim.Native.Nat.{◌≤◌}
 use Rattle.sorting.proofs.Searching.{Searched}
 use Rattle.sorting.proofs.first_free.Given as goal
 
-abbrev pub invariant-loop-left : goal.invariant-loop-left
-invariant-loop-left l =
-    (l.left ≤ l.pending) × Searched l.rows l.pending l.left
-
-abbrev pub decreases-loop-left : goal.decreases-loop-left
-decreases-loop-left l =
-    l.left
+abbrev pub invariant-loop-i : goal.invariant-loop-i
+invariant-loop-i l =
+    (l.i-iterator.0 ≤ l.pending) × Searched l.rows l.pending l.i-iterator.0

@@ -3,11 +3,11 @@ use native.Mathlib.Omega.{arith}
 use Rattle.tallying.proofs.CountTurns.{begun_none}
 use Rattle.tallying.proofs.begin.Goals as goal
 
-pub returns-then-due-lt-FEW : goal.returns-then-due-lt-FEW
-returns-then-due-lt-FEW c =
-    (begun_none c.requires.0 c.requires.1, omega (arith, c.requires.3, c.if-due-lt-FEW.true))
+pub returns-then-extent-lt-FEW : goal.returns-then-extent-lt-FEW
+returns-then-extent-lt-FEW c =
+    (begun_none (record { tables = c.args.t.now.given; size = c.told-h; held = c.told-l }) c.requires.0, omega (arith, c.requires.2, c.if-extent-lt-FEW.true))
 
 pub returns : goal.returns
 returns c =
     let ran = c.run.ensures in
-    (ran.0, omega (arith, ran.1))
+    (record { answers = ran.0.written; begun = ran.0.begun; counted = ran.0.left }, omega (arith, ran.1))

@@ -1,14 +1,8 @@
 -- `count_answers` raises the count of each request, up to the end of the answers: at each turn the rest of the requests gives on the counts so
 -- far, with the rest of the answers, what all of them give on those before.
-use Prim.Native.Nat.{◌-◌}
-use lib.ListN.{length}
 use Rattle.tallying.proofs.AnswerTurns.{Answered}
 use Rattle.tallying.proofs.count_answers.Given as goal
 
-abbrev pub invariant-loop-at : goal.invariant-loop-at
-invariant-loop-at l =
-    Answered l.t l.requests l.answers l.initial.counts l.counts l.at l.i
-
-abbrev pub decreases-loop-at : goal.decreases-loop-at
-decreases-loop-at l =
-    length l.requests - l.at
+abbrev pub invariant-loop-answer : goal.invariant-loop-answer
+invariant-loop-answer l =
+    Answered l.t l.requests l.answers l.initial.counts l.counts l.at l.answer-index

@@ -6,9 +6,7 @@ use Rattle.tallying.proofs.CountTurns.{together, counted_whole}
 use Rattle.tallying.proofs.run.Goals as goal
 
 pub run_few-rest-requires : goal.run_few-rest-requires
-run_few-rest-requires c =
-    let begun = c.begin-ran.ensures in
-    (begun.0.begun.done.ready, rw part_to_end begun.1)
+run_few-rest-requires c = rw part_to_end c.begin-ran.ensures.1
 
 pub overflow_add-result : goal.overflow_add-result
 overflow_add-result c =

@@ -8,12 +8,9 @@ use Rattle.tallying.proofs.run_few.Goals as goal
 
 pub run_from-ran-requires : goal.run_from-ran-requires
 run_from-ran-requires c =
-    let start = c in (
-      c.requires.0,
-      record { within = omega arith; further = omega arith; grants = omega arith; enough = omega (arith, c.requires.1) },
-    )
+    record { within = omega arith; further = omega arith; grants = omega arith; enough = omega (arith, c.requires) }
 
 pub returns : goal.returns
 returns c =
     let a = state c.args.h.now c.args.l.now in
-    few_counted (c.run_from-ran.ensures a _ refl (done_none c.requires.0)) c.count_answers.ensures
+    few_counted (c.run_from-ran.ensures a _ refl (done_none (record { tables = c.args.t.now.given; size = c.told-h; held = c.told-l }))) c.count_answers.ensures

@@ -4,16 +4,18 @@ use borrow.Author.Tests.{eq-eqb, ne_eqb, lt-ltb, le-ltb}
 use Rattle.timed.specs.Timed.{level_by_reads}
 use Rattle.timed.proofs.timed_level_by_reads.Goals as goal
 
-pub returns-then-history-ne-BYTES : goal.returns-then-history-ne-BYTES
+pub returns-in_default : goal.returns-in_default
 unfolding level_by_reads
-returns-then-history-ne-BYTES c = rw (ne_eqb _ _ c.if-history-ne-BYTES.true)
+returns-in_default c = rw (ne_eqb _ _ c.in_default.ensures.cases)
 
 pub returns-then-person-ge-PERSONS : goal.returns-then-person-ge-PERSONS
 unfolding level_by_reads
 returns-then-person-ge-PERSONS c =
     let person = c.args.person in
-    rw (eq-eqb _ _ c.if-history-ne-BYTES.false, le-ltb person 64 (omega arith))
+    rw (eq-eqb _ _ c.in-Some.ensures.cases.long, le-ltb person 64 (omega arith))
 
 pub returns : goal.returns
 unfolding level_by_reads
-returns c = rw (eq-eqb _ _ c.if-history-ne-BYTES.false, lt-ltb c.args.person 64 c.if-person-ge-PERSONS.false) c.level_by_reads-level.ensures
+returns c =
+    let h = c.in-Some.ensures.cases in
+    rw (eq-eqb _ _ h.long, lt-ltb c.args.person 64 c.if-person-ge-PERSONS.false) (rw h.same at c.level_by_reads-level.ensures)

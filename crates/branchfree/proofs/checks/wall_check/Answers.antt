@@ -7,25 +7,25 @@ use Prim.Native.Nat.{◌%◌}
 use Rattle.bits.specs.Bits.{bit}
 use Rattle.branchfree.specs.Failing.{rivals}
 use Rattle.policy.specs.Tables.{wall_rule}
-use Rattle.branchfree.proofs.FailingLaws.{and_ones, shifted, in_force_lem, not_in_force}
+use Rattle.branchfree.proofs.FailingLaws.{as_one, and_ones, shifted, in_force_lem, not_in_force}
 use Rattle.branchfree.proofs.checks.wall_check.Goals as goal
 
-pub returns-then-bit8 : goal.returns-then-bit8
+pub returns-then-in_force : goal.returns-then-in_force
 unfolding rivals
-returns-then-bit8 c =
+returns-then-in_force c =
     λ b e.
     let args = c.args in
     let some = not (eqb (bit_and args.counted args.class) 0) in
     let other = not (bit args.counted (args.firm % 64)) in
     shifted 2 ((some && other) && b) (lit< tt)
     (and_ones (some && other) b
-    (and_ones some other c.one_if-some.ensures.0 (rw c.bit64.ensures at c.one_if-other.ensures.0)) e)
+    (and_ones some other (as_one some c.from-some.ensures) (as_one other (rw c.bit.ensures at c.from-other.ensures))) e)
     ∙ in_force_lem (bit args.mask wall_rule) ((some && other) && b) 2
-    (sym c.bit8.ensures ∙ c.if-bit8.true)
+    (sym c.in_force.ensures ∙ c.if-in_force.true)
 
 pub returns : goal.returns
 returns c =
     λ b e.
     let args = c.args in
-    not_in_force (bit args.mask wall_rule) (rivals args.counted args.class args.firm && b) 2 (sym c.bit8.ensures ∙
-    c.if-bit8.false)
+    not_in_force (bit args.mask wall_rule) (rivals args.counted args.class args.firm && b) 2 (sym c.in_force.ensures ∙
+    c.if-in_force.false)

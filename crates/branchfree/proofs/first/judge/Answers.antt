@@ -5,12 +5,11 @@ use Rattle.policy.specs.Request.{has_place}
 use Rattle.branchfree.specs.Kinds.{asks_level}
 use Rattle.branchfree.specs.Failing.{failing_of}
 use Rattle.branchfree.proofs.FailingLaws.{negated}
-use borrow.Author.Rules.{rules}
 use Rattle.branchfree.proofs.first.judge.Goals as goal
 
 pub returns : goal.returns
 unfolding failing_of
-returns c = (
+returns g c = (
   c.first_check.ensures.0,
   λ q a b m n asked row out counts l k rules has.
       let args = c.args in

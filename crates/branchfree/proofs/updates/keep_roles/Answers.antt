@@ -3,12 +3,12 @@ use mathlib.Core.Path.{sym, ap, ◌∙◌}
 use lib.ListN.{set}
 use Rattle.branchfree.proofs.updates.keep_roles.Goals as goal
 
-pub returns-then-bit8 : goal.returns-then-bit8
-returns-then-bit8 c =
+pub returns-then-in_force : goal.returns-then-in_force
+returns-then-in_force c =
     λ b e.
     let args = c.args in
-    rw (sym c.bit8.ensures ∙ c.if-bit8.true)
+    rw (sym c.in_force.ensures ∙ c.if-in_force.true)
     (ap (set args.holding.now args.s) (c.narrowed.ensures b e))
 
-pub returns-else-bit8 : goal.returns-else-bit8
-returns-else-bit8 c = λ b e. rw (sym c.bit8.ensures ∙ c.if-bit8.false)
+pub returns-else-in_force : goal.returns-else-in_force
+returns-else-in_force c = λ b e. rw (sym c.in_force.ensures ∙ c.if-in_force.false)

@@ -2,5 +2,5 @@
 use Rattle.std.proofs.Common.{◌≤◌}
 use Rattle.cases.proofs.plans.put_jobs.Given as goal
 
-abbrev pub invariant-loop-k : goal.invariant-loop-k
-invariant-loop-k l = l.granted ≤ l.k
+abbrev pub invariant-loop-i : goal.invariant-loop-i
+invariant-loop-i l = l.granted ≤ l.i-index

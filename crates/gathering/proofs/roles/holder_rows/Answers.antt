@@ -1,21 +1,7 @@
--- `holder_rows` stores the rows one after another: before turn k those of the roles below k.
-use Prim.Native.Nat.{◌-◌}
-use native.Mathlib.Omega.{arith}
-use mathlib.Core.Path.{◌≡◌}
-use Rattle.gathering.proofs.RoleLaws.{rows_none, rows_more}
+-- `holder_rows` has the rows that the closure gives.
+use Rattle.gathering.proofs.RoleLaws.{rows_ext}
 use borrow.Author.Rules.{rules}
 use Rattle.gathering.proofs.roles.holder_rows.Goals as goal
 
-pub loop-k-init : goal.loop-k-init
-loop-k-init c = (search rules, rows_none _)
-
-pub holders_of-requires : goal.holders_of-requires
-holders_of-requires c = c.some_in-used.ensures
-
-pub loop-k-preserved : goal.loop-k-preserved
-loop-k-preserved c =
-    let looped = c.loop-k in
-    (search rules, rows_more _ looped.k _ looped.invariant.1 (omega arith) c.holders_of.ensures)
-
 pub returns : goal.returns
-returns c = let all : c.loop-k.k ≡ 32 = omega arith in rw all at c.loop-k.invariant.1
+returns c = rows_ext _ c.rows_by.ensures (λ k v l p. search rules)

@@ -4,5 +4,4 @@ use Rattle.gathering.proofs.roles.holders_of.Goals as goal
 
 pub returns : goal.returns
 returns c =
-    let start = c in
     holds_is _ _ _ _ c.requires c.outside.ensures _ _ c.among.ensures c.outside-2.ensures

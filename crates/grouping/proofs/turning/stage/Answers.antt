@@ -1,5 +1,5 @@
 -- `stage` stores the rows one after another: before turn i the first 2 * i rows are those of the stage.
-use Prim.Native.Nat.{◌+◌, ◌-◌, ◌*◌}
+use Prim.Native.Nat.{◌+◌, ◌*◌}
 use native.Mathlib.Omega.{arith}
 use mathlib.Core.Path.{◌≡◌, refl}
 use Rattle.recorded.proofs.GatheringLaws.{stored_none, stored_more}
@@ -8,11 +8,10 @@ use borrow.Author.Rules.{rules}
 use Rattle.grouping.proofs.turning.stage.Goals as goal
 
 pub loop-i-init : goal.loop-i-init
-loop-i-init c = (search rules, stored_none 64 _ _ refl)
+loop-i-init g c = (search rules, stored_none 64 _ _ refl)
 
 pub loop-i-preserved : goal.loop-i-preserved
-loop-i-preserved c =
-    let at-merge = c in
+loop-i-preserved g c =
     let looped = c.loop-i in
     let i = looped.i in
     let first = stored_more 64 (2 * i) _ _ _ looped.invariant.1 (omega arith) (even_row _ _ i refl refl c.merge.ensures) in
@@ -21,4 +20,4 @@ loop-i-preserved c =
     (search rules, rw next at second)
 
 pub returns : goal.returns
-returns c = let all : 2 * c.loop-i.i ≡ 64 = omega arith in rw all at c.loop-i.invariant.1
+returns g c = let all : 2 * c.loop-i.i ≡ 64 = omega arith in rw all at c.loop-i.invariant.1

@@ -1,29 +1,7 @@
--- `access_words` stores the joined words one after another: before turn s those of the persons below s.
-use Prim.Native.Nat.{◌-◌}
-use native.Mathlib.Omega.{arith}
-use mathlib.Core.Path.{◌≡◌, refl, ap₂}
-use Rattle.recorded.proofs.GatheringLaws.{stored_none, stored_more}
-use lib.Bits.{bit_or}
-use Rattle.history.specs.Words.{word_at}
+-- `access_words` has at each place the joined words of that person, as the closure finds them.
+use Rattle.grouping.proofs.FillLaws.{filled}
 use borrow.Author.Rules.{rules}
 use Rattle.grouping.proofs.words.access_words.Goals as goal
 
-pub loop-s-init : goal.loop-s-init
-loop-s-init c = (search rules, stored_none 64 _ _ refl)
-
-pub word_at-requires : goal.word_at-requires
-word_at-requires c = omega arith
-
-pub word_at-requires-in-loop-s : goal.word_at-requires-in-loop-s
-word_at-requires-in-loop-s c = omega arith
-
-pub loop-s-preserved : goal.loop-s-preserved
-loop-s-preserved c =
-    let looped = c.loop-s in (
-      search rules,
-      stored_more 64 looped.s _ _ _ looped.invariant.1 (omega arith)
-          (ap₂ bit_or c.word_at.ensures c.word_at-in-loop-s.ensures),
-    )
-
 pub returns : goal.returns
-returns c = let all : c.loop-s.s ≡ 64 = omega arith in rw all at c.loop-s.invariant.1
+returns c = filled _ _ 64 (λ s y q l k. search rules) c.from_fn.ensures.items

@@ -26,5 +26,5 @@ pub returns : goal.returns
 returns c =
     let start = c in
     let args = c.args in
-    made args.self.0 args.other.0 (omega arith) (omega arith) c.smaller-rank.ensures
+    made args.self.0 args.other.0 (omega arith) (omega arith) c.min-rank.ensures
     c.compartments.ensures c.compartments-2.ensures

@@ -19,7 +19,5 @@ overflow_sub-result c =
 
 pub returns : goal.returns
 returns c =
-    let start = c in
-    let marks = c.one_if.ensures in
     made c.args.level.0 c.args.mark (omega arith) c.rank.ensures
-    (c.word16.ensures.0 ∙ c.compartments.ensures) marks.0 marks.1
+    (c.from.ensures ∙ c.compartments.ensures) c.from-2.ensures

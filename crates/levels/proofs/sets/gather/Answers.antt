@@ -5,6 +5,5 @@ use Rattle.levels.proofs.sets.gather.Goals as goal
 
 pub returns : goal.returns
 returns c =
-    let known = c in
-    gathered _ _ _ _ _ refl (record { size = c.requires; bytes = λ i. (c.shared_slice_known-1.given i).fits })
+    gathered _ _ _ _ _ refl (record { size = c.told-l; bytes = c.fits-l })
     c.put_persons.ensures c.put_folders.ensures

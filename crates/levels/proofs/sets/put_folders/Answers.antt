@@ -1,5 +1,4 @@
 -- `sets::put_folders` stores the set of each folder: before each turn those of the folders below the number reached are at their places.
-use Prim.Native.Nat.{◌-◌}
 use native.Mathlib.Omega.{arith}
 use mathlib.Core.Path.{◌≡◌, refl}
 use Rattle.bits.proofs.FillingLaws.{fill_none, fill_more}
@@ -14,7 +13,7 @@ loop-o-preserved c =
     let looped = c.loop-o in
     let start = c in (
       search rules,
-      fill_more 64 looped.o _ _ _ _ refl looped.invariant.1 (omega (arith, c.requires)) (c.set_of.ensures, omega arith),
+      fill_more 64 looped.o _ _ _ _ refl looped.invariant.1 (omega (arith, c.told-sets)) (c.set_of.ensures, omega arith),
     )
 
 pub returns : goal.returns

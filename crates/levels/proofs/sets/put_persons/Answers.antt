@@ -1,5 +1,4 @@
 -- `sets::put_persons` stores the set of each person: before each turn those of the persons below the number reached are at their places.
-use Prim.Native.Nat.{◌-◌}
 use native.Mathlib.Omega.{arith}
 use mathlib.Core.Path.{◌≡◌}
 use Rattle.bits.proofs.FillingLaws.{fill_none, fill_more}
@@ -15,8 +14,8 @@ loop-s-preserved c =
     let looped = c.loop-s in
     let start = c in (
       search rules,
-      fill_more 0 looped.s _ _ _ _ (omega arith) looped.invariant.1 (omega (arith, c.requires.1))
-          (person_set_lem c.args.t _ looped.s c.set_of.ensures c.entry.ensures),
+      fill_more 0 looped.s _ _ _ _ (omega arith) looped.invariant.1 (omega (arith, c.told-sets))
+          (person_set_lem c.args.t.now _ looped.s c.set_of.ensures c.entry.ensures),
     )
 
 pub returns : goal.returns

@@ -1,5 +1,4 @@
 -- `sets::store` gives the buffer whose levels the sets are: before each turn the bytes of the persons below the number reached are.
-use Prim.Native.Nat.{◌-◌}
 use native.Mathlib.Omega.{arith}
 use mathlib.Core.Path.{◌≡◌, ◌∙◌}
 use Rattle.policy.proofs.LevelBytes.{size_with}
@@ -8,7 +7,7 @@ use borrow.Author.Rules.{rules}
 use Rattle.levels.proofs.sets.store.Goals as goal
 
 pub loop-s-init : goal.loop-s-init
-loop-s-init c = (search rules, c.requires, λ m buffer holds i below. let z : ⊥ = omega arith in absurd z)
+loop-s-init c = (search rules, c.told-l, λ m buffer holds i below. let z : ⊥ = omega arith in absurd z)
 
 pub loop-s-preserved : goal.loop-s-preserved
 loop-s-preserved c =

@@ -5,12 +5,12 @@ use Rattle.listed.proofs.pairs.at_most.Goals as goal
 
 pub returns-in-AtMost : goal.returns-in-AtMost
 unfolding is_at_most at_most
-returns-in-AtMost c = ap is_at_most (sym c.in-AtMost.is ∙ c.compare-outcome.ensures)
+returns-in-AtMost c = ap is_at_most (sym c.in-AtMost.is ∙ c.compare.ensures)
 
 pub returns-in-RankTooLow : goal.returns-in-RankTooLow
 unfolding is_at_most at_most
-returns-in-RankTooLow c = ap is_at_most (sym c.in-RankTooLow.is ∙ c.compare-outcome.ensures)
+returns-in-RankTooLow c = ap is_at_most (sym c.in-RankTooLow.is ∙ c.compare.ensures)
 
 pub returns-in-CompartmentMissing : goal.returns-in-CompartmentMissing
 unfolding is_at_most at_most
-returns-in-CompartmentMissing c = ap is_at_most (sym c.in-CompartmentMissing.is ∙ c.compare-outcome.ensures)
+returns-in-CompartmentMissing c = ap is_at_most (sym c.in-CompartmentMissing.is ∙ c.compare.ensures)

@@ -1,17 +1,17 @@
 -- `looked_up` is what is looked up about a job, field by field.
-use Rattle.precedence.specs.Precedence.{lowers_level, needs_level, is_step}
-use Rattle.listed.specs.Pairs.{side_by}
+use Rattle.precedence.specs.Precedence.{is_step}
+use Rattle.listed.specs.Pairs.{side_by, side_of}
 use Rattle.listed.proofs.pairs.looked_up.Goals as goal
 
 pub returns : goal.returns
-unfolding side_by lowers_level needs_level is_step
+unfolding side_of side_by is_step
 returns c =
-    let first = c in
     rw (
-      c.both-2.ensures,
-      c.bit8-2.ensures,
-      c.is_either-2.ensures,
-      c.both.ensures,
-      c.is_either.ensures,
-      c.bit8.ensures,
+      c.in_force.ensures,
+      c.lowers_level.ensures,
+      c.needs_level.ensures,
+      c.in_force-2.ensures,
+      c.from.ensures,
+      c.from-2.ensures,
+      c.from-3.ensures,
     )

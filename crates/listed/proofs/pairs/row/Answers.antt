@@ -1,5 +1,5 @@
 -- `row` puts each job that x may not come before into the set, one after another; there is none where no rule asks about x.
-use Prim.Native.Nat.{ℕ, ◌-◌}
+use Prim.Native.Nat.{ℕ}
 use native.Mathlib.Nat.{mod-eq_of_lt}
 use native.Mathlib.Omega.{arith}
 use mathlib.Core.Path.{◌≡◌, sym, ap, ap₂, ◌∙◌}
@@ -11,10 +11,10 @@ use Rattle.listed.proofs.Implied.{unasked}
 use borrow.Author.Rules.{rules}
 use Rattle.listed.proofs.pairs.row.Goals as goal
 
-pub returns-then-not-is_any : goal.returns-then-not-is_any
-returns-then-not-is_any c =
+pub returns-then-not-x : goal.returns-then-not-x
+returns-then-not-x c =
     let args = c.args in
-    sym (mask_none args.n _ (λ j l. ap not (unasked args.x _ (sym c.is_any.ensures ∙ c.if-not-is_any.true))))
+    sym (mask_none args.n _ (λ j l. ap not (unasked args.x _ c.if-not-x.true)))
 
 pub loop-j-init : goal.loop-j-init
 loop-j-init c = (search rules, sym (mask_start _))
@@ -35,4 +35,4 @@ returns c =
     let looped = c in
     let args = c.args in
     let all : c.loop-j.j ≡ args.n = omega arith in
-    c.loop-j.invariant.1 ∙ ap (λ (k : ℕ). mask_below k (λ j. not (precedes args.x (side_at args.sides j)))) all
+    c.loop-j.invariant.1 ∙ ap (λ (k : ℕ). mask_below k (λ j. not (precedes args.x (side_at args.sides.now j)))) all

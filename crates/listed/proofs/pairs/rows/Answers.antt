@@ -1,5 +1,4 @@
 -- `rows` stores the sets one after another: before turn i those of the jobs below i.
-use Prim.Native.Nat.{◌-◌}
 use native.Mathlib.Omega.{arith}
 use mathlib.Core.Path.{◌≡◌, refl}
 use Rattle.recorded.proofs.GatheringLaws.{stored_none, stored_more}

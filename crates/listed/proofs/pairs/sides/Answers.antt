@@ -1,9 +1,7 @@
 -- `sides` stores what is looked up one job after another: before turn i the sides of the jobs below i.
-use Prim.Native.Nat.{◌-◌}
 use native.Mathlib.Omega.{arith}
-use mathlib.Core.Path.{◌≡◌, refl}
+use mathlib.Core.Path.{◌≡◌, refl, ap, ◌∙◌}
 use Rattle.listed.specs.Pairs.{side_of}
-use Rattle.listed.proofs.JobBytes.{job_at_lem}
 use Rattle.listed.proofs.StoredSides.{sides_none, sides_more}
 use borrow.Author.Rules.{rules}
 use Rattle.listed.proofs.pairs.sides.Goals as goal
@@ -12,20 +10,11 @@ pub loop-i-init : goal.loop-i-init
 loop-i-init c = (search rules, sides_none _ _ _ refl)
 
 pub loop-i-preserved : goal.loop-i-preserved
-unfolding side_of
 loop-i-preserved c =
-    let at_second = c in
-    let at_first = c in
-    let turn = c in
-    let bytes = c.args.jobs.now in (
+    let turn = c in (
       search rules,
       sides_more _ _ _ _ _ c.loop-i.invariant.1 (omega arith)
-          (rw (
-            c.looked_up.ensures,
-            job_at_lem c.loop-i.i bytes (omega arith),
-            c.wide.ensures.0,
-            c.wide-in-loop-i.ensures.0,
-          )),
+          (c.looked_up.ensures ∙ ap (side_of c.args.t.now) c.job_at.ensures),
     )
 
 pub returns : goal.returns

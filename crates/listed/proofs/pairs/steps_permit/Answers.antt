@@ -7,19 +7,12 @@ use Rattle.listed.specs.Pairs.{steps_pass}
 use Rattle.listed.proofs.Implied.{passes_unasked, passes_asked}
 use Rattle.listed.proofs.pairs.steps_permit.Goals as goal
 
-pub returns-then-not-both : goal.returns-then-not-both
+pub returns-then-not-x-y : goal.returns-then-not-x-y
 unfolding steps_pass
-returns-then-not-both c =
-    let tests = c in
-    let args = c.args in
-    passes_unasked args.x.steps args.y.steps _ (not (bit args.y.enabled (args.x.step % 16))) c.both.ensures
-    c.both-2.ensures c.if-not-both.true
+returns-then-not-x-y c = passes_unasked _ _ c.if-not-x-y.true
 
-pub returns : goal.returns
+pub returns-else-not-x-y : goal.returns-else-not-x-y
 unfolding steps_pass
-returns c =
-    let tests = c in
-    let args = c.args in
-    ap not (c.bit16.ensures ∙ ap (λ (k : ℕ). bit args.y.enabled (k % 16)) c.wide.ensures.0)
-    ∙ passes_asked args.x.steps args.y.steps _ (not (bit args.y.enabled (args.x.step % 16))) c.both.ensures
-    c.both-2.ensures c.if-not-both.false
+returns-else-not-x-y c =
+    ap not (c.bit.ensures ∙ ap (λ (k : ℕ). bit c.args.y.enabled (k % 16)) c.from.ensures)
+    ∙ passes_asked _ _ c.if-not-x-y.false

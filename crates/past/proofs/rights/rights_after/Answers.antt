@@ -17,7 +17,7 @@ returns c =
     let folder = c.args.folder in
     let declared = not-false folder.declared c.if-not-folder.false in
     let small = c.requires.kind declared in
-    let same = c.wide-kind.ensures.0 in
+    let same = c.from-kind.ensures in
     let kind : folder.kind % 64 ≡ folder.kind = omega arith in
     let above : (16 + folder.kind) % 64 ≡ 16 + folder.kind = omega arith in
     rw (declared, c.with_bit64_if-2.ensures, c.with_bit64_if.ensures, same, kind, above)

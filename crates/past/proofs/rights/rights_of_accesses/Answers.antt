@@ -1,6 +1,6 @@
 -- `rights::rights_of_accesses` answers the rights of reads and writes, or those found once no role holds them and the new right: after each
 -- turn those of 64 folders more.
-use Prim.Native.Nat.{◌+◌, ◌*◌, ◌-◌}
+use Prim.Native.Nat.{◌+◌, ◌*◌}
 use native.Mathlib.Omega.{arith}
 use mathlib.Core.Path.{◌≡◌}
 use Rattle.policy.specs.Request.{set_of}
@@ -10,14 +10,12 @@ use borrow.Author.Rules.{rules}
 use Rattle.past.proofs.rights.rights_of_accesses.Goals as goal
 
 pub loop-half-init : goal.loop-half-init
-loop-half-init c = (search rules, found_whole (rights_start c.args.t (set_of c.args.h.now) c.args.s))
+loop-half-init c = (search rules, found_whole (rights_start c.args.t.now.tables (set_of c.args.h.now) c.args.s))
 
 pub rights_over-rights-requires : goal.rights_over-rights-requires
 rights_over-rights-requires c =
     let start = c in (
-      c.requires.0,
-      c.requires.1,
-      c.requires.2,
+      c.requires,
       omega arith,
       omega arith,
       c.loop-half.invariant.1,

@@ -8,7 +8,7 @@ use Rattle.past.proofs.rights.rights_of_accesses.Given as goal
 
 abbrev pub invariant-loop-half : goal.invariant-loop-half
 invariant-loop-half l =
-    (l.half ≤ 2) × FoundOf l.roles (l.right % 64) (rights_below l.t (set_of l.h) l.s (64 * l.half)) l.rights
+    (l.half ≤ 2) × FoundOf l.roles (l.right % 64) (rights_below l.t.tables (set_of l.h) l.s (64 * l.half)) l.rights
 
 abbrev pub decreases-loop-half : goal.decreases-loop-half
 decreases-loop-half l =

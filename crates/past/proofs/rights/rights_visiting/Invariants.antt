@@ -4,10 +4,6 @@ use Rattle.past.specs.Turns.{rights_turn, rights_visiting}
 use Rattle.recorded.specs.Visits.{Leads}
 use Rattle.past.proofs.rights.rights_visiting.Given as goal
 
-abbrev pub invariant-loop-rest : goal.invariant-loop-rest
-invariant-loop-rest l =
-    Leads (rights_turn l.t l.first l.read l.wrote) (rights_visiting l.t l.first l.read l.wrote l.before) l.rest l.rights
-
-abbrev pub decreases-loop-rest : goal.decreases-loop-rest
-decreases-loop-rest l =
-    l.rest
+abbrev pub invariant-loop-i : goal.invariant-loop-i
+invariant-loop-i l =
+    Leads (rights_turn l.t.tables l.first l.read l.wrote) (rights_visiting l.t.tables l.first l.read l.wrote l.before) l.i-iterator.0 l.rights

@@ -3,4 +3,4 @@ use mathlib.Core.Path.{◌∙◌}
 use Rattle.past.proofs.rights.some_role_holds.Goals as goal
 
 pub returns : goal.returns
-returns c = c.lowest_role.ensures.1 ∙ rw c.with_bit64.ensures
+returns c = c.some_role_covers.ensures ∙ rw c.with_bit.ensures

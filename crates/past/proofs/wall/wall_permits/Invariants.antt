@@ -6,7 +6,7 @@ use Rattle.past.proofs.wall.wall_permits.Given as goal
 
 abbrev pub invariant-loop-i : goal.invariant-loop-i
 invariant-loop-i l =
-    (l.i ≤ 128) × Searched l.t l.h l.s l.class l.asked.firm l.i l.rival
+    (l.i ≤ 128) × Searched l.t.tables l.h l.s l.class l.asked.firm l.i l.rival
 
 abbrev pub decreases-loop-i : goal.decreases-loop-i
 decreases-loop-i l =

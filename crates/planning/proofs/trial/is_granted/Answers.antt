@@ -4,5 +4,5 @@ use Rattle.planning.proofs.trial.is_granted.Goals as goal
 
 pub returns : goal.returns
 returns c =
-    granted_records _ _ _ _ _ c.requires.2 c.requires.3 c.requires.4 c.put_records-end.ensures.front
+    granted_records _ _ _ _ _ c.requires.1 c.requires.2 c.requires.3 c.put_records-end.ensures.front
     c.run_grants.ensures

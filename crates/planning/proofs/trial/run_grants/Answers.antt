@@ -4,6 +4,4 @@ use Rattle.planning.proofs.trial.run_grants.Goals as goal
 
 pub returns : goal.returns
 returns c =
-    let ready = c.requires.0 in
-    run_grants _ _ (record { size = ready.size; held = ready.held; tables = ready.tables }) _ _ c.requires.1
-    (rw (c.copy.ensures, c.copy-2.ensures) at c.run-ran.ensures)
+    run_grants _ _ (record { tables = c.args.t.now.given; size = c.told-h; held = c.told-levels }) _ _ c.requires c.run-ran.ensures

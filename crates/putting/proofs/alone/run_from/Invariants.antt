@@ -11,9 +11,9 @@ use Rattle.putting.proofs.alone.run_from.Given as goal
 
 abbrev pub invariant-loop-at : goal.invariant-loop-at
 invariant-loop-at l =
-    Room l.requests (length l.initial.answers) l.at l.i l.granted × (length l.answers ≡ length l.initial.answers) × Ready l.t l.h l.l
-    × ((a : State) (room : List ℕ) → length room ≡ length l.initial.answers → Done l.t a l.requests room l.initial.at l.initial.i l.initial.granted (state l.initial.h l.initial.l) l.initial.answers
-    → Done l.t a l.requests room l.at l.i l.granted (state l.h l.l) l.answers)
+    Room l.requests (length l.initial.answers) l.at l.i l.granted × (length l.answers ≡ length l.initial.answers) × Ready l.t.tables l.h l.l
+    × ((a : State) (room : List ℕ) → length room ≡ length l.initial.answers → Done l.t.tables a l.requests room l.initial.at l.initial.i l.initial.granted (state l.initial.h l.initial.l) l.initial.answers
+    → Done l.t.tables a l.requests room l.at l.i l.granted (state l.h l.l) l.answers)
 
 abbrev pub decreases-loop-at : goal.decreases-loop-at
 decreases-loop-at l =

@@ -24,24 +24,24 @@ pub returns-then-stepped-eq0-2 : goal.returns-then-stepped-eq0-2
 returns-then-stepped-eq0-2 c =
     let start = c in
     let args = c.args in
-    none-applied args.t args.h.now args.s c.requires.2 c.if-stepped-eq0.true c.if-stepped-eq0-2.true
-    ∙ applied_all args.t args.h.now args.s
+    none-applied args.t.now args.h.now args.s c.requires.1 c.if-stepped-eq0.true c.if-stepped-eq0-2.true
+    ∙ applied_all args.t.now args.h.now args.s
 
 pub applied_over-low-requires : goal.applied_over-low-requires
 applied_over-low-requires c =
     let start = c in
     let args = c.args in
-    let stepped = folders_low (stepped_at args.h.now args.s) c.requires.2 in
-    (c.requires.0, c.requires.1, omega arith, stepped, applied_start args.t args.h.now args.s)
+    let stepped = folders_low (stepped_at args.h.now args.s) c.requires.1 in
+    (c.requires.0, omega arith, stepped, applied_start args.t.now args.h.now args.s)
 
 pub applied_over-requires : goal.applied_over-requires
 applied_over-requires c =
     let start = c in
     let args = c.args in
-    let stepped = folders_high (stepped_at args.h.now args.s) c.requires.2 in
-    (c.requires.0, c.requires.1, omega arith, stepped, c.applied_over-low.ensures)
+    let stepped = folders_high (stepped_at args.h.now args.s) c.requires.1 in
+    (c.requires.0, omega arith, stepped, c.applied_over-low.ensures)
 
 pub returns : goal.returns
 returns c =
     let args = c.args in
-    c.applied_over.ensures ∙ applied_all args.t args.h.now args.s
+    c.applied_over.ensures ∙ applied_all args.t.now args.h.now args.s

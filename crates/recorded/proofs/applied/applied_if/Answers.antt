@@ -5,10 +5,10 @@ use Rattle.recorded.specs.Recorded.{stepped_at}
 use Rattle.recorded.proofs.GatheringLaws.{unstepped_on}
 use Rattle.recorded.proofs.applied.applied_if.Goals as goal
 
-pub returns-then-not-bit64 : goal.returns-then-not-bit64
-returns-then-not-bit64 c =
+pub returns-then-not-bit : goal.returns-then-not-bit
+returns-then-not-bit c =
     let start = c in
     let args = c.args in
-    let among = mask_test (λ s. stepped_at args.h.now s args.o) args.s c.requires.person c.steppers.ensures
-    c.bit64.ensures in
-    unstepped_on args.folder args.h.now args.s args.o (sym among ∙ c.if-not-bit64.true)
+    let among = mask_test (λ s. stepped_at args.h.now s args.o) args.s c.requires.0 c.steppers.ensures
+    c.bit.ensures in
+    unstepped_on args.folder args.h.now args.s args.o (sym among ∙ c.if-not-bit.true)

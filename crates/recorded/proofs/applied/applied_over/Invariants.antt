@@ -4,10 +4,6 @@ use Rattle.recorded.specs.Gathering.{applied_below, applied_after}
 use Rattle.recorded.specs.Visits.{Leads}
 use Rattle.recorded.proofs.applied.applied_over.Given as goal
 
-abbrev pub invariant-loop-rest : goal.invariant-loop-rest
-invariant-loop-rest l =
-    Leads (λ i. applied_after l.t l.h l.s (l.first + i)) (applied_below l.t l.h l.s (l.first + 64)) l.rest l.steps
-
-abbrev pub decreases-loop-rest : goal.decreases-loop-rest
-decreases-loop-rest l =
-    l.rest
+abbrev pub invariant-loop-i : goal.invariant-loop-i
+invariant-loop-i l =
+    Leads (λ i. applied_after l.t l.h l.s (l.first + i)) (applied_below l.t l.h l.s (l.first + 64)) l.i-iterator.0 l.steps

@@ -1,6 +1,6 @@
 -- `applied::steps_applied` answers the steps that a person applied: after o turns it holds those of the folders below o, and where these
 -- are all, the other folders add none.
-use Prim.Native.Nat.{◌+◌, ◌-◌}
+use Prim.Native.Nat.{◌+◌}
 use native.Mathlib.Omega.{arith}
 use mathlib.Core.Path.{◌≡◌, sym, ◌∙◌}
 use Rattle.recorded.proofs.GatheringLaws.{applied_start, applied_more, all_found, applied_all}
@@ -8,12 +8,12 @@ use borrow.Author.Rules.{rules}
 use Rattle.recorded.proofs.applied.steps_applied.Goals as goal
 
 pub loop-o-init : goal.loop-o-init
-loop-o-init c = (search rules, applied_start c.args.t c.args.h.now c.args.s)
+loop-o-init c = (search rules, applied_start c.args.t.now c.args.h.now c.args.s)
 
 pub applied_if-steps-requires : goal.applied_if-steps-requires
 applied_if-steps-requires c =
     let start = c in
-    record { size = c.requires.0; person = c.requires.1; folder = omega arith }
+    (c.requires, omega arith)
 
 pub returns-then-steps : goal.returns-then-steps
 returns-then-steps c =
@@ -30,4 +30,4 @@ pub returns : goal.returns
 returns c =
     let start = c in
     let all : c.loop-o.o ≡ 128 = omega arith in
-    rw all at c.loop-o.invariant.1 ∙ applied_all c.args.t c.args.h.now c.args.s
+    rw all at c.loop-o.invariant.1 ∙ applied_all c.args.t.now c.args.h.now c.args.s

@@ -25,8 +25,7 @@ word_at-requires-2 c = omega arith
 
 pub returns : goal.returns
 returns c =
-    let known = c in
     let args = c.args in
-    answer (tables_of args.t.now) args.h.now args.s args.before.0 (λ i. (c.shared_slice_known-1.given i).fits)
+    answer (tables_of args.t.now) args.h.now args.s args.before.0 c.fits-h
     c.word_at.ensures c.level_over-low.ensures c.word_at-2.ensures
     c.level_over.ensures

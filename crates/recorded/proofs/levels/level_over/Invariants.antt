@@ -1,15 +1,12 @@
--- `levels::level_over` answers the level after 64 folders: at each turn the folders left in the set lower the level to the answer, since
--- the lowest of them can come first. The set is a number that falls, as it loses a bit at each turn.
-use Prim.Native.Nat.{◌^◌, ◌<◌}
-use mathlib.Core.Path.{◌≡◌}
+-- `levels::level_over` answers the level after 64 folders: before each turn the folders that are left lead to it.
+use Prim.Native.Nat.{◌+◌}
 use Rattle.packed.specs.Packed.{tables_of}
-use Rattle.recorded.specs.Levels.{level_over}
+use Rattle.policy.specs.Tables.{folder_at}
+use Rattle.recorded.specs.Levels.{level_after, level_over}
+use Rattle.recorded.specs.Visits.{Leads}
 use Rattle.recorded.proofs.levels.level_over.Given as goal
 
-abbrev pub invariant-loop-rest : goal.invariant-loop-rest
-invariant-loop-rest l =
-    (l.rest < 2 ^ 64) × (level_over (tables_of l.t) l.rest l.first 64 l.level.0 ≡ level_over (tables_of l.t) l.set l.first 64 l.initial.level.0)
-
-abbrev pub decreases-loop-rest : goal.decreases-loop-rest
-decreases-loop-rest l =
-    l.rest
+abbrev pub invariant-loop-i : goal.invariant-loop-i
+invariant-loop-i l =
+    let t = tables_of l.t in
+    Leads (λ i. level_after (folder_at t (l.first + i))) (level_over t l.set l.first 64 l.initial.level.0) l.i-iterator.0 l.level.0

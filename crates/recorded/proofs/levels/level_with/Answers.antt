@@ -25,16 +25,16 @@ answer t h s person found entry r l = rw (l, r, found, entry, level_by_set_lem) 
 pub person-person-requires : goal.person-person-requires
 person-person-requires c =
     let start = c in
-    person_below_lem (tables_of c.args.t.now) c.args.s c.requires.1
+    person_below_lem (tables_of c.args.t.now) c.args.s c.requires.0
 
 pub level_by_reads-requires : goal.level_by_reads-requires
 level_by_reads-requires c =
     let start = c in
-    (c.requires.0, person_below_lem (tables_of c.args.t.now) c.args.s c.requires.1)
+    person_below_lem (tables_of c.args.t.now) c.args.s c.requires.0
 
 pub returns : goal.returns
 returns c =
     let start = c in
     let args = c.args in
-    answer (tables_of args.t.now) args.h.now args.s c.requires.1 c.requires.2
+    answer (tables_of args.t.now) args.h.now args.s c.requires.0 c.requires.1
     c.person-person.ensures c.level_by_reads.ensures c.level_by_steps.ensures

@@ -1,5 +1,4 @@
 -- `steps::all_steppers` answers the steppers of each folder: before each turn those of the folders below the one reached are stored.
-use Prim.Native.Nat.{◌-◌}
 use native.Mathlib.Omega.{arith}
 use mathlib.Core.Path.{◌≡◌, refl}
 use Rattle.recorded.proofs.GatheringLaws.{stored_none, stored_more}

@@ -1,6 +1,6 @@
 -- `steps::stepped_over` answers the set of those of 64 folders whose steppers have a person among them: after i turns it holds those
 -- below i.
-use Prim.Native.Nat.{◌-◌, ◌%◌}
+use Prim.Native.Nat.{◌%◌}
 use native.Mathlib.Omega.{arith}
 use mathlib.Core.Path.{◌≡◌, sym, ◌∙◌}
 use Rattle.bits.proofs.Masks.{mask_start, mask_step}
@@ -18,7 +18,7 @@ loop-i-preserved c =
     let person : args.s % 64 ≡ args.s = omega (arith, c.requires.0) in
     let place : loop.i % 64 ≡ loop.i = omega arith in (
       search rules,
-      mask_step loop.i _ loop.invariant.1 (c.with_bit64_if-set.ensures ∙ rw (c.bit64.ensures, person, place)),
+      mask_step loop.i _ loop.invariant.1 (c.with_bit64_if-set.ensures ∙ rw (c.bit.ensures, person, place)),
     )
 
 pub returns : goal.returns

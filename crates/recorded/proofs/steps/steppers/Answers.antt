@@ -1,6 +1,5 @@
 -- `steps::steppers` answers the set of the persons who stepped on a folder: after p turns it holds those who applied one of the steps
 -- below p.
-use Prim.Native.Nat.{◌-◌}
 use native.Mathlib.Omega.{arith}
 use mathlib.Core.Path.{◌≡◌}
 use Rattle.recorded.specs.Recorded.{stepped_at}
@@ -16,9 +15,8 @@ word_at-set-requires c = omega arith
 
 pub loop-step-preserved : goal.loop-step-preserved
 loop-step-preserved c =
-    let known = c.shared_slice_known-1 in
     let loop = c.loop-step in
-    (search rules, more_steppers _ _ (λ k. (known.given k).fits) loop.step loop.invariant.1 c.word_at-set.ensures)
+    (search rules, more_steppers _ _ c.fits-h loop.step loop.invariant.1 c.word_at-set.ensures)
 
 pub returns : goal.returns
 unfolding steppers_below stepped_at

@@ -1,6 +1,6 @@
 -- `steps::steps_of` answers the set of the steps that a person applied to a folder: after p turns it holds the steps below p, shifted up by
 -- the number of the person's bit, and at the end it is shifted down.
-use Prim.Native.Nat.{ℕ, ◌-◌, ◌*◌, ◌%◌, ◌^◌}
+use Prim.Native.Nat.{ℕ, ◌*◌, ◌%◌, ◌^◌}
 use native.Mathlib.Omega.{arith}
 use mathlib.Core.Path.{refl, ap, ◌∙◌}
 use lib.Bits.{bit_or, mask_lt}
@@ -16,9 +16,9 @@ loop-p-preserved c =
     let looped = c in
     let args = c.args in (
       search rules,
-      ap (λ (n : ℕ). bit_or c.loop-p.steps (n * 2 ^ c.loop-p.p % 4294967296)) c.wide.ensures.0
+      ap (λ (n : ℕ). bit_or c.loop-p.steps (n * 2 ^ c.loop-p.p % 4294967296)) c.from.ensures
           ∙ steps_step args.h.now args.s args.o c.loop-p.p (omega arith) c.loop-p.invariant.1 refl
-          c.with_bit8-one.ensures,
+          c.with_bit-one.ensures,
     )
 
 pub overflow_cast-result : goal.overflow_cast-result

@@ -4,5 +4,4 @@ use Rattle.rulebook.proofs.ByteLaws.{two_bytes}
 use Rattle.rulebook.proofs.records.number16.Goals as goal
 
 pub returns : goal.returns
-returns c =
-    omega (arith, two_bytes c.args.at c.args.book.now, c.wide.ensures, c.wide-2.ensures)
+returns c = omega (arith, two_bytes c.args.at c.args.book.now, c.from_le_bytes.ensures)

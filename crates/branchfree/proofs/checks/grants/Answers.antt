@@ -1,8 +1,0 @@
--- `grants` is the list of the grants.
-use mathlib.Core.Path.{refl}
-use Rattle.branchfree.specs.Failing.{grant_at}
-use Rattle.branchfree.proofs.checks.grants.Goals as goal
-
-pub returns : goal.returns
-unfolding grant_at
-returns c = refl
