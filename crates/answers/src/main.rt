@@ -4,11 +4,24 @@
 
 use policy::Tables;
 use report::shown::{BookRefused, TooLong, Totals};
+use std::fmt::Display;
 use std::io;
 use std::io::Write;
 
 // The most bytes of input that are taken.
 const LIMIT: usize = 65536;
+
+// The most bytes of a line that is printed once: `granted G refused R`, with two numbers of at most 20 digits each.
+const LINE: usize = 64;
+
+// Prints a line by one write, so that where a write fails no part of it stands.
+fn print_line<W: Write, L: Display>(line: &L, to: &mut W) -> io::Result<()> {
+    let mut out = [0u8; LINE];
+    let mut room = &mut out[..];
+    write!(room, "{line}")?;
+    let len = LINE.saturating_sub(room.len());
+    to.write_all(&out[..len])
+}
 
 // Prints the lines of the answers, a buffer full at a time.
 fn print_lines<W: Write>(answers: &[u8], to: &mut W) -> io::Result<()> {
@@ -23,7 +36,9 @@ fn print_lines<W: Write>(answers: &[u8], to: &mut W) -> io::Result<()> {
     Ok(())
 }
 
-// Puts the requests from a blank history and the first levels, and prints the answers and the totals.
+// Puts the requests from a blank history and the first levels, and prints the answers and the totals. It is called and not joined to `main`,
+// since a refused book needs none of its arrays.
+#[inline(never)]
 fn print_answers<W: Write>(t: Tables, requests: &[u8], to: &mut W) -> io::Result<()> {
     let mut history = [0u8; history::BYTES];
     let mut levels = [0u8; levels::BYTES];
@@ -36,7 +51,7 @@ fn print_answers<W: Write>(t: Tables, requests: &[u8], to: &mut W) -> io::Result
         granted: ran.granted,
         refused: ran.refused,
     };
-    write!(to, "{totals}")
+    print_line(&totals, to)
 }
 
 // Prints what the input comes to: a refused book, or the answers to its requests.
@@ -47,7 +62,7 @@ fn answer<W: Write>(input: &[u8], to: &mut W) -> io::Result<()> {
             number: loaded.number,
             offset: loaded.offset,
         };
-        return write!(to, "{refused}");
+        return print_line(&refused, to);
     }
     print_answers(loaded.tables, monitor::rest(input), to)
 }
@@ -57,7 +72,7 @@ fn main(rt: HostRuntime) -> io::Result<()> {
     let n = intake::fill(&mut rt.stdin(), &mut input)?;
     let mut to = rt.stdout();
     if n > LIMIT {
-        return write!(to, "{}", TooLong);
+        return print_line(&TooLong, &mut to);
     }
     answer(&input[..n], &mut to)
 }

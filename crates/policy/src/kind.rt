@@ -35,7 +35,8 @@ impl From<Kind> for u8 {
     }
 }
 
-// The kind of a request that begins with this byte.
+// The kind of a request that begins with this byte. The match has ranges, as document 01 names them; judging and recording one request go
+// through it.
 impl TryFrom<u8> for Kind {
     type Error = UnknownKind;
 
@@ -47,7 +48,8 @@ impl TryFrom<u8> for Kind {
             17 => Ok(Kind::Write),
             18 => Ok(Kind::Start),
             19 => Ok(Kind::Step),
-            _ => Err(UnknownKind(byte)),
+            0..=15 => Err(UnknownKind(byte)),
+            20..=255 => Err(UnknownKind(byte)),
         }
     }
 }

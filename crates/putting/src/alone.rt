@@ -13,7 +13,7 @@ use request::Parsed;
 
 // Records a request that was granted, whose folder has this level.
 #[tactic(auto, using(crate::proofs::PutAlone::other_recorded))]
-fn record(h: &mut History, l: &mut Levels, parsed: Parsed, level: Level)
+fn record(h: &mut [u8], l: &mut Levels, parsed: Parsed, level: Level)
     requires { Fits parsed }
     ensures { Recorded h.old l.old parsed level.0 h.new l.new }
 {
@@ -38,7 +38,7 @@ fn record(h: &mut History, l: &mut Levels, parsed: Parsed, level: Level)
 }
 
 // Records a request, whose folder has this level, if its answer is that it is granted.
-fn record_if_granted(answer: Answer, h: &mut History, l: &mut Levels, parsed: Parsed, level: Level)
+fn record_if_granted(answer: Answer, h: &mut [u8], l: &mut Levels, parsed: Parsed, level: Level)
     requires { number_of answer ≡ 0 → Fits parsed }
     ensures { RecordedBy (number_of answer) h.old l.old parsed level.0 h.new l.new }
 {

@@ -4,13 +4,12 @@ ghost use Rattle.policy.specs.Request.{start, step, recorded};
 ghost use Rattle.request.specs.Parsed.{access_by};
 ghost use Rattle.putting.specs.Running.{lowered_to};
 
-use history::History;
 use level::Level;
 use levels::Levels;
 
 // A read of folder o, which has this level, by person s, or a write.
 #[tactic(auto, unfolding(policy::specs::Request::recorded, crate::specs::Running::lowered_to))]
-pub fn record_access(h: &mut History, l: &mut Levels, s: usize, o: usize, write: bool, level: Level)
+pub fn record_access(h: &mut [u8], l: &mut Levels, s: usize, o: usize, write: bool, level: Level)
     requires { (s < 64) × (o < 128) }
     ensures { (h.new ≡ recorded h.old (access_by write s o))
         × (l.new ≡ cond write l.old (lowered_to l.old s level.0)) }
@@ -23,7 +22,7 @@ pub fn record_access(h: &mut History, l: &mut Levels, s: usize, o: usize, write:
 
 // A start of person u by person s.
 #[tactic(auto, unfolding(policy::specs::Request::recorded))]
-pub fn record_start(h: &mut History, s: usize, u: usize)
+pub fn record_start(h: &mut [u8], s: usize, u: usize)
     requires { (s < 64) × (u < 64) }
     ensures { h.new ≡ recorded h.old (start s u) }
 {
@@ -32,7 +31,7 @@ pub fn record_start(h: &mut History, s: usize, u: usize)
 
 // Step p on folder o, which has this level, by person s.
 #[tactic(auto, unfolding(policy::specs::Request::recorded, crate::specs::Running::lowered_to))]
-pub fn record_step(h: &mut History, l: &mut Levels, s: usize, p: usize, o: usize, level: Level)
+pub fn record_step(h: &mut [u8], l: &mut Levels, s: usize, p: usize, o: usize, level: Level)
     requires { (s < 64) × (p < 16) × (o < 128) }
     ensures { (h.new ≡ recorded h.old (step s p o)) × (l.new ≡ lowered_to l.old s level.0) }
 {

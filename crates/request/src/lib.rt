@@ -50,7 +50,8 @@ fn parse_short(bytes: &[u8]) -> Parsed
             step: 0,
             next: 3,
         },
-        _ => nothing(left),
+        0..=15 => nothing(left),
+        19..=255 => nothing(left),
     }
 }
 
@@ -60,7 +61,8 @@ fn longer(kind: u8) -> usize
 {
     match kind {
         19 => 1,
-        _ => 0,
+        0..=18 => 0,
+        20..=255 => 0,
     }
 }
 
@@ -75,7 +77,8 @@ pub fn parse(bytes: &[u8]) -> Parsed
     }
     match bytes[0] {
         16..=19 => parse_whole(bytes),
-        _ => nothing(left),
+        0..=15 => nothing(left),
+        20..=255 => nothing(left),
     }
 }
 
@@ -107,7 +110,8 @@ pub fn whole_length(bytes: &[u8]) -> usize
     match bytes[0] {
         16..=18 => 3,
         19 => if left < 4 { 0 } else { 4 },
-        _ => 0,
+        0..=15 => 0,
+        20..=255 => 0,
     }
 }
 

@@ -1,23 +1,22 @@
 -- The tests over the arrays are those of the definition. A folder's firm is looked up modulo 64 in the code, and below 64 in the
 -- definition, which is the same where it is below 64. No step enables step 0 exactly where 0 is not in the union of the sets.
-use Prim.Native.Nat.{ℕ, zero, suc, ◌%◌}
-use Rattle.std.specs.List.{list_any, list_all, enumerate_from}
+use Prim.Native.Nat.{ℕ, zero, suc}
 use mathlib.Core.Bool.{Bool, true, false, cond, not, ◌&&◌, ◌||◌}
 use mathlib.Core.Path.{◌≡◌, refl, sym, ap, ◌∙◌}
 use lib.Dec.{eqb, ltb, leb}
-use lib.ListN.{length, get_or}
+use lib.ListN.{get_or}
 use borrow.Author.Tests.{ltb-true}
 use Rattle.bits.specs.Bits.{bit}
 use Rattle.bits.specs.Bounded.{any_below, all_below}
 use Rattle.bits.proofs.Bounds.{all_ext}
 use Rattle.policy.specs.declared.Folder.{Folder}
 use Rattle.policy.specs.declared.Tables.{Tables}
-use Rattle.policy.specs.Tables.{no_firm, no_person, no_folder, no_role, enables, firm_declared, folder_at}
+use Rattle.policy.specs.Tables.{no_firm, no_person, no_role, enables, firm_declared, folder_at}
 use Rattle.policy.specs.Rulebook.{firm_given, person_given, role_given, folder_given, given}
-use Rattle.rulebook.specs.Steps.{closed, enabled_below, loose_among}
+use Rattle.rulebook.specs.Steps.{enabled_below, circle_in, loose_in}
 use Rattle.rulebook.specs.Entries.{folder_given_by, folder_given_among, folders_given}
-use Rattle.rulebook.proofs.ListLaws.{all_listed, within}
-use Rattle.rulebook.proofs.StepLaws.{bit_enabled, circle_listed, circle_is, loose_listed, loose_is}
+use Rattle.rulebook.proofs.ListLaws.{within}
+use Rattle.rulebook.proofs.StepLaws.{bit_enabled, circle_is, loose_is}
 
 -- two tests of which the second is asked only where the first is true
 and_where : (a b c : Bool) → (a ≡ true → b ≡ c) → a && b ≡ a && c
@@ -51,26 +50,15 @@ unfolding enables
 create_is t =
     ap not (bit_enabled t.steps 16 0) ∙ sym (all_not 16 (λ p. bit (get_or t.steps p 0) 0))
 
--- the tests over the lists of entries, one after another
-pub given_is : (t : Tables) → length t.firms ≡ 64 → length t.persons ≡ 64 → length t.folders ≡ 128 → length t.roles ≡ 32
-    → length t.steps ≡ 16
-    → leb t.mask 15 && list_all firm_given t.firms && list_all person_given t.persons && list_all (folder_given_among t.firms) t.folders
-    && list_all role_given t.roles
+-- the tests of the entries and of the steps, one after another
+pub given_is : (t : Tables)
+    → leb t.mask 15 && all_below 64 (λ f. firm_given (get_or t.firms f no_firm))
+    && all_below 64 (λ s. person_given (get_or t.persons s no_person))
+    && folders_given t.firms t.folders
+    && all_below 32 (λ k. role_given (get_or t.roles k no_role))
     && not (bit (enabled_below 16 t.steps) 0)
-    && not (list_any (λ x. bit x.1 (x.0 % 16)) (enumerate_from 0 (closed 16 t.steps)))
-    && not (list_any (λ x. loose_among (enabled_below 16 t.steps) x.1 (x.0 % 16)) (enumerate_from 0 t.steps))
+    && not (circle_in t.steps)
+    && not (loose_in t.steps)
     ≡ given t
-unfolding folders_given given
-given_is t firms persons folders roles steps =
-    rw (
-      all_listed firm_given no_firm t.firms 64 firms,
-      all_listed person_given no_person t.persons 64 persons,
-      all_listed (folder_given_among t.firms) no_folder t.folders 128 folders,
-      all_listed role_given no_role t.roles 32 roles,
-      circle_listed t.steps steps,
-      loose_listed t.steps steps,
-      folders_is t,
-      create_is t,
-      circle_is t,
-      loose_is t,
-    )
+unfolding given
+given_is t = rw (folders_is t, create_is t, circle_is t, loose_is t)

@@ -15,7 +15,8 @@ ghost use Rattle.rulebook.specs.Entries.{
 use level::Level;
 use policy::{Firm, Folder, Person, Role, Tables};
 
-// An array of one entry. It is made in a function of its own, where the entry is copied whole and not field by field.
+// An array of one entry. It is made in a function of its own, where the entry is copied whole and not field by field. (Not that of the
+// roles, which would be filled apart and then copied.)
 fn all_of<T: Copy, const N: usize>(entry: T) -> [T; N]
     ensures { result ≡ replicate N entry }
 {
@@ -51,7 +52,7 @@ pub fn empty() -> Tables
         firms: all_of(firm),
         persons: all_of(person),
         folders: all_of(folder),
-        roles: all_of(role),
+        roles: [role; 32],
         steps: [0; 16],
     }
 }

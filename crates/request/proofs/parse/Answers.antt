@@ -4,23 +4,23 @@ use mathlib.Core.Path.{sym, ◌∙◌}
 use Rattle.request.proofs.RequestLaws.{is_unknown, next_unknown}
 use Rattle.request.proofs.WholeLaws.{four_whole}
 use Rattle.request.proofs.parse.Goals as goal
-use Rattle.request.proofs.parse.Goals.{in_default-via-then-bytes-lt16, in_default-via-else-bytes-lt16+else-this-lt20}
 
 pub parse_whole-requires : goal.parse_whole-requires
+-- four bytes hold a whole record of each of the four kinds
 parse_whole-requires c = four_whole _ (omega arith) (omega arith) (omega arith)
 
-pub returns-in_default : goal.returns-in_default
-returns-in_default c =
+pub returns-in-0-to-15 : goal.returns-in-0-to-15
+returns-in-0-to-15 c =
     let none = c.nothing.ensures in
-    elim c.in_default.branch [
-      | in_default-via-then-bytes-lt16 w ↦
-          record {
-            request = none.0 ∙ sym (is_unknown _ (omega arith) (omega arith) (omega arith) (omega arith) (omega arith));
-            onward = none.1 ∙ sym (next_unknown _ (omega arith) (omega arith) (omega arith) (omega arith) (omega arith));
-          }
-      | in_default-via-else-bytes-lt16+else-this-lt20 w ↦
-          record {
-            request = none.0 ∙ sym (is_unknown _ (omega arith) (omega arith) (omega arith) (omega arith) (omega arith));
-            onward = none.1 ∙ sym (next_unknown _ (omega arith) (omega arith) (omega arith) (omega arith) (omega arith));
-          }
-    ]
+    record {
+      request = none.0 ∙ sym (is_unknown _ (omega arith) (omega arith) (omega arith) (omega arith) (omega arith));
+      onward = none.1 ∙ sym (next_unknown _ (omega arith) (omega arith) (omega arith) (omega arith) (omega arith));
+    }
+
+pub returns-in-20-to-255 : goal.returns-in-20-to-255
+returns-in-20-to-255 c =
+    let none = c.nothing-in-20-to-255.ensures in
+    record {
+      request = none.0 ∙ sym (is_unknown _ (omega arith) (omega arith) (omega arith) (omega arith) (omega arith));
+      onward = none.1 ∙ sym (next_unknown _ (omega arith) (omega arith) (omega arith) (omega arith) (omega arith));
+    }

@@ -19,8 +19,8 @@ returns-else-left-lt4 c = sym (step_whole _ (omega arith) (omega arith))
 pub returns-in-16-to-18 : goal.returns-in-16-to-18
 returns-in-16-to-18 c = sym (three_whole _ (omega arith) (omega arith) (omega arith))
 
-pub returns-in_default : goal.returns-in_default
-returns-in_default c = sym (none_whole _ (is_unknown _ (omega arith) (omega arith) (omega arith) (omega arith) (omega arith)))
+pub returns-in-0-to-15 : goal.returns-in-0-to-15
+returns-in-0-to-15 c = sym (none_whole _ (is_unknown _ (omega arith) (omega arith) (omega arith) (omega arith) (omega arith)))
 
-pub returns-in_default-2 : goal.returns-in_default-2
-returns-in_default-2 c = sym (none_whole _ (is_unknown _ (omega arith) (omega arith) (omega arith) (omega arith) (omega arith)))
+pub returns-in-20-to-255 : goal.returns-in-20-to-255
+returns-in-20-to-255 c = sym (none_whole _ (is_unknown _ (omega arith) (omega arith) (omega arith) (omega arith) (omega arith)))

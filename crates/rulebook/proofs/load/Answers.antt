@@ -6,7 +6,7 @@ use Rattle.bits.proofs.Booleans.{false_elim}
 use Rattle.policy.specs.Refusals.{number_of}
 use Rattle.rulebook.specs.Readings.{record_read, kind_of}
 use Rattle.rulebook.proofs.KindLaws.{not_end}
-use Rattle.rulebook.proofs.LoadLaws.{starts, less, refuses_some, refused_by_form, refused_is, ended_by, goes_on}
+use Rattle.rulebook.proofs.LoadLaws.{starts, less, refuses_some, refused_by_form, refused_is, ended_by, ended_refused, ended_passed, goes_on}
 use Rattle.rulebook.proofs.load.Goals as goal
 use Rattle.rulebook.proofs.load.Goals.{in-End, in_default}
 
@@ -21,9 +21,19 @@ loop-r-smaller c = less c.loop-r.invariant c.in-Ok.ensures.ok
 
 -- ---- the end record
 
+pub returns-in-Err-end_answer : goal.returns-in-Err-end_answer
+returns-in-Err-end_answer c =
+    let is = sym (ap number_of c.in-Err-end_answer.is) ∙ c.end_answer.ensures in
+    c.refuse-in-Err-end_answer.ensures
+    ∙ sym (ended_refused _ _ is (refuses_some c.in-Err-end_answer.refusal))
+    ∙ elim c.match-matches.branch [
+      | in-End w ↦ ended_by c.loop-r.invariant c.in-Ok.ensures.ok (ap record_read w.in-End.is)
+      | in_default w ↦ absurd (false_elim _ w.matches-is c.if-matches.true)
+    ]
+
 pub returns-then-matches : goal.returns-then-matches
 returns-then-matches c =
-    c.end.ensures
+    rw c.number_of.ensures (sym (ended_passed _ _ c.end_answer.ensures (ap number_of c.in_default-end_answer.is)))
     ∙ elim c.match-matches.branch [
       | in-End w ↦ ended_by c.loop-r.invariant c.in-Ok.ensures.ok (ap record_read w.in-End.is)
       | in_default w ↦ absurd (false_elim _ w.matches-is c.if-matches.true)
