@@ -14,7 +14,7 @@ const LIMIT: usize = 65536;
 // The most bytes of a line that is printed once: `granted G refused R`, with two numbers of at most 20 digits each.
 const LINE: usize = 64;
 
-// Prints a line by one write, so that where a write fails no part of it stands.
+// Prints a line by one write: output is not buffered, and where each part is written by itself, a line is torn as soon as one write fails.
 fn print_line<W: Write, L: Display>(line: &L, to: &mut W) -> io::Result<()> {
     let mut out = [0u8; LINE];
     let mut room = &mut out[..];

@@ -71,7 +71,7 @@ fn declare(t: &mut Tables, found: Record) -> Answer
 }
 
 // Loads a book: its tables, or those of the empty book with the number and the offset of what refuses it. What is handed back is made here:
-// by a function of its own it would be copied once more, and that takes a third of the load of a small book.
+// by a function of its own it would be copied once more, and the load of a small book takes longer (docs/LOOK-BACK.md).
 pub fn load(book: &[u8]) -> Loaded
     ensures { result ≡ load_book book.now }
 {

@@ -6,7 +6,8 @@ use Rattle.bits.proofs.Booleans.{false_elim}
 use Rattle.policy.specs.Refusals.{number_of}
 use Rattle.rulebook.specs.Readings.{record_read, kind_of}
 use Rattle.rulebook.proofs.KindLaws.{not_end}
-use Rattle.rulebook.proofs.LoadLaws.{starts, less, refuses_some, refused_by_form, refused_is, ended_by, ended_refused, ended_passed, goes_on}
+use Rattle.rulebook.proofs.LoadLaws.{starts, less, refuses_some, refused_by_form, refused_is, goes_on}
+use Rattle.rulebook.proofs.LoadLaws.{ended_by, ended_refused, ended_passed}
 use Rattle.rulebook.proofs.load.Goals as goal
 use Rattle.rulebook.proofs.load.Goals.{in-End, in_default}
 
